@@ -1,0 +1,66 @@
+-- `flows::pedestrian_need` meets its contract: its callees' answers are the definition's, and the way added is at most 48 dm.
+use Prim.Native.Nat.{ℕ, _*_, _≤_, _<_}
+use native.Mathlib.Bridge.{le-by-compare, IsLe}
+use native.Mathlib.Nat.{le-pred-of-lt}
+use native.Mathlib.Numerals.{bound}
+use native.Mathlib.Omega.{arith}
+use borrow.Author.Needs.{needs}
+use Rattle.flows.specs.Needs.{pedestrianNeed}
+use Rattle.flows.proofs.pedestrian_need.Statement.{statement}
+use Rattle.flows.proofs.pedestrian_need.Tie as tie
+
+added : {d s : ℕ} → d < 4 → s < 17 → d * s ≤ 48
+unfolding IsLe
+added hd hs = grw (bound, le-pred-of-lt hd, le-pred-of-lt hs) (le-by-compare _ _ tt)
+
+crossing-speed-requires : tie.Need-crossing-speed-requires
+crossing-speed-requires c κs = search needs
+
+cast-way : tie.Need-cast-way
+cast-way c = search needs
+
+disturbance-requires : tie.Need-disturbance-requires
+disturbance-requires c κs = search needs
+
+add-way : tie.Need-add-way
+add-way c = omega (arith, added (c .disturbance .ensures .small) (c .before .before .crossing-speed .ensures .small))
+
+mul-way : tie.Need-mul-way
+mul-way c = omega (arith, add-way c .fits)
+
+div-up-requires : tie.Need-div-up-requires
+div-up-requires c κs = search needs
+
+cast-larger : tie.Need-cast-larger
+cast-larger c = search needs
+
+larger-requires : tie.Need-larger-requires
+larger-requires c κs = search needs
+
+cast-result : tie.Need-cast-result
+cast-result c = search needs
+
+returns : tie.Need-returns
+unfolding pedestrianNeed
+returns c =
+    simp (
+      c .larger .ensures,
+      c .before .div-up .ensures,
+      c .before .before .disturbance .ensures .same,
+      c .before .before .before .before .crossing-speed .ensures .same,
+    )
+
+pub pedestrian-need-spec : {M : Type 1} → statement M
+pedestrian-need-spec =
+    tie.close
+    (tie.spec
+    crossing-speed-requires
+    cast-way
+    disturbance-requires
+    mul-way
+    add-way
+    div-up-requires
+    cast-larger
+    larger-requires
+    cast-result
+    returns)

@@ -1,0 +1,4 @@
+pub mod Needs
+pub mod Saturation
+pub mod Bounds
+pub mod Meaning

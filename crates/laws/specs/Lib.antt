@@ -1,0 +1,5 @@
+pub mod Ranges
+pub mod Rounding
+pub mod Search
+pub mod Squares
+pub mod Tests

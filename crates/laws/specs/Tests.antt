@@ -1,0 +1,26 @@
+-- Laws of tests: a test passes or fails, a pair of tests passes where both do, and two comparisons are one test where they agree.
+use Prim.Native.Nat.{ℕ, _≤_, _<_}
+use mathlib.Core.Bool.{Bool, true, false, _&&_, false≢true}
+use mathlib.Core.Path.{_≡_, refl, sym, _∙_}
+use lib.Dec.{leb}
+use borrow.Author.Tests.{le-leb, lt-leb, leb-true, leb-false}
+
+pub by-test : {P : Type 0} (b : Bool) → (b ≡ true → P) → (b ≡ false → P) → P
+by-test true passes fails = passes refl
+by-test false passes fails = fails refl
+
+pub both : (a b : Bool) → a ≡ true → b ≡ true → (a && b) ≡ true
+both a b p q = rw p q
+
+pub both-left : (a b : Bool) → (a && b) ≡ true → a ≡ true
+both-left true b p = refl
+both-left false b p = p
+
+pub both-right : (a b : Bool) → (a && b) ≡ true → b ≡ true
+both-right true b p = p
+both-right false b p = absurd (false≢true p)
+
+-- two comparisons are the same where one holds if the other does, and fails if the other does
+pub leb-same : (a b c d : ℕ) → (a ≤ b → c ≤ d) → (b < a → d < c) → leb a b ≡ leb c d
+leb-same a b c d holds fails =
+    by-test (leb a b) (λ e. e ∙ sym (le-leb c d (holds (leb-true a b e)))) (λ e. e ∙ sym (lt-leb c d (fails (leb-false a b e))))

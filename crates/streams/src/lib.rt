@@ -1,0 +1,61 @@
+// The streams of a junction (document 01, "The junction file"). Lengths are decimetres unless said; a flag is true where the
+// file has 1.
+
+pub struct CarFigures {
+    // Amber in seconds.
+    pub amber: u8,
+    // Reaches the zone without stopping at the line first.
+    pub flying: bool,
+    // Radius of the turn, 0 for straight on.
+    pub radius: u16,
+    // Width of the approach in centimetres.
+    pub width: u16,
+    // Rows of a turning stream.
+    pub rows: u8,
+    // Gradient in percent plus 10.
+    pub gradient: u8,
+    // 1 good, 2 medium, 3 bad.
+    pub conditions: u8,
+    // Shares of the traffic that turn, in percent.
+    pub left: u8,
+    pub right: u8,
+}
+
+pub struct TramFigures {
+    // Starts from a stop before the line.
+    pub stop: bool,
+    pub length: u16,
+    // Trams an hour.
+    pub hourly: u8,
+}
+
+pub struct PedestrianFigures {
+    // Clearing speed in decimetres a second.
+    pub speed: u8,
+    // Length of the crossing.
+    pub crossing: u16,
+    // People an hour.
+    pub hourly: u16,
+    // The time to reach a zone is counted.
+    pub counted: bool,
+    // Turning cars have green in the same phase.
+    pub disturbed: bool,
+}
+
+pub struct CyclistFigures {
+    // The time to reach a zone is counted.
+    pub counted: bool,
+}
+
+// Each kind of stream has figures of its own.
+pub enum Kind {
+    Car(CarFigures),
+    Tram(TramFigures),
+    Pedestrian(PedestrianFigures),
+    Cyclist(CyclistFigures),
+}
+
+pub struct Stream {
+    pub phase: u8,
+    pub kind: Kind,
+}

@@ -1,0 +1,6 @@
+pub mod Bounds
+pub mod Comparison
+pub mod Entry
+pub mod Meaning
+pub mod Monotone
+pub mod Times
