@@ -5,13 +5,12 @@ use mathlib.Core.List.{List, [], _∷_, map}
 use mathlib.Core.Path.{_≡_, refl}
 use Rattle.laws.specs.Rounding.{up}
 use Rattle.laws.specs.Search.{firstBelow, firstOf}
-use Rattle.streams.specs.declared.Kind.{Kind}
-use Rattle.streams.specs.declared.Kind.the-variants.{Car, Tram, Pedestrian, Cyclist}
+use Rattle.streams.specs.declared.Kind.the-variants.{Car, Tram, Pedestrian}
 use Rattle.streams.specs.declared.Stream.{Stream}
 use Rattle.times.specs.Comparison.{belowRoot, rootBelow, ratioRatio, ratioRoot, rootRatio, rootAfter, rootBefore, rootRoot, ratioWithin, rootWithin, within}
 use Rattle.times.specs.Times.{carTime, carLeaving, stopLeaving, tramLeaving, leaving, passing, carReaching, tramReaching, countedReaching, reaching}
 use Rattle.times.specs.Entry.{leastGap, entry}
-use Rattle.flows.specs.Needs.{table3, longestCycle, tramNeed, crossingSpeed, disturbance, pedestrianNeed, kindNeed, needAt}
+use Rattle.flows.specs.Needs.{crossingSpeed, disturbance, pedestrianNeed, kindNeed, needAt}
 use Rattle.flows.specs.Saturation.{table1, listedFrom, straightFlow}
 
 -- a car with amber 3, standing, of width 350, with a radius

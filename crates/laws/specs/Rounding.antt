@@ -1,5 +1,5 @@
 -- A quotient rounded up, and what that means: the least whole number that is not below the quotient.
-use Prim.Native.Nat.{ℕ, zero, suc, _+_, _-_, _*_, _/_, _≤_, _<_}
+use Prim.Native.Nat.{ℕ, _+_, _-_, _*_, _/_, _≤_, _<_}
 use native.Mathlib.Nat.{div-lt-iff-lt-mul, le-mul-of-pos-right, div-zero}
 use native.Mathlib.Omega.{arith}
 use mathlib.Core.Logic.{_↔_}

@@ -1,7 +1,7 @@
 -- Leaving and reaching times of each kind, unrounded (document 01, "Times at a zone"; annex 1.1 to 1.3).
 -- Distances are decimetres: 10 m/s is 100.
 use Prim.Native.Nat.{ℕ, _+_, _-_, _*_, max}
-use mathlib.Core.Bool.{Bool, true, false, cond}
+use mathlib.Core.Bool.{Bool, cond}
 use lib.Dec.{leb, ltb, eqb}
 use Rattle.times.specs.declared.Time.{Time}
 use Rattle.times.specs.declared.Time.the-variants.{Ratio, Root}

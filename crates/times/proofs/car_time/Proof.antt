@@ -1,10 +1,8 @@
 -- `times::car_time` meets its contract: the products of bytes are small.
 use Prim.Native.Nat.{_+_, _*_, _≤_, _^_}
-use mathlib.Core.Path.{ap}
 use native.Mathlib.Nat.{le-of-lt, mul-le-mul}
 use native.Mathlib.Omega.{arith}
 use borrow.Author.Needs.{needs}
-use Rattle.times.specs.declared.Time.the-variants.{Ratio}
 use Rattle.times.specs.Times.{carTime}
 use Rattle.times.proofs.car_time.Statement.{statement}
 use Rattle.times.proofs.car_time.Tie as tie
