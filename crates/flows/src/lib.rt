@@ -56,7 +56,8 @@ const TABLE3: [u16; 20] = [
     53,
 ];
 
-fn longest_cycle(hourly: u8) -> u16
+// The longest cycle in seconds in which a number of trams an hour needs 10 s; in a longer one they need 20 s.
+pub fn longest_cycle(hourly: u8) -> u16
     ensures { λ r. ⌜ r ≡ longestCycle hourly ⌝ }
 {
     TABLE3[table3_column(hourly)]

@@ -1,3 +1,4 @@
+pub mod Largest
 pub mod Ranges
 pub mod Rounding
 pub mod Search

@@ -1,4 +1,4 @@
--- What one test that antt computes shows of every number of a range.
+-- Numbers of a range, and what one test that antt computes shows of every one of them.
 use Prim.Native.Nat.{ℕ, zero, suc, _+_, _≤_, _<_}
 use native.Mathlib.Nat.{eq-or-lt-of-le}
 use native.Mathlib.Omega.{arith}
@@ -6,6 +6,10 @@ use mathlib.Core.Bool.{Bool, true, _&&_}
 use mathlib.Core.Logic.{⊎-elim}
 use mathlib.Core.Path.{_≡_}
 use Rattle.laws.specs.Tests.{both-left, both-right}
+
+-- a number from low to high, both included
+abbrev pub Within : ℕ → ℕ → ℕ → Type 0
+Within low high n = (low ≤ n) × (n ≤ high)
 
 -- the test passes at each of the n numbers from lo on
 abbrev pub everyOf : (ℕ → Bool) → ℕ → ℕ → Bool

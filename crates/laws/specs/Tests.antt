@@ -1,6 +1,8 @@
--- Laws of tests: a test passes or fails, a pair of tests passes where both do, and two comparisons are one test where they agree.
+-- Laws of tests: a test passes or fails, a pair of tests passes where both do or where one of them does, and two comparisons are one test
+-- where they agree.
 use Prim.Native.Nat.{ℕ, _≤_, _<_}
-use mathlib.Core.Bool.{Bool, true, false, _&&_, false≢true}
+use mathlib.Core.Bool.{Bool, true, false, _&&_, _||_, false≢true}
+use mathlib.Core.Logic.{_⊎_, inl, inr}
 use mathlib.Core.Path.{_≡_, refl, sym, _∙_}
 use lib.Dec.{leb}
 use borrow.Author.Tests.{le-leb, lt-leb, leb-true, leb-false}
@@ -19,6 +21,10 @@ both-left false b p = p
 pub both-right : (a b : Bool) → (a && b) ≡ true → b ≡ true
 both-right true b p = p
 both-right false b p = absurd (false≢true p)
+
+pub either : (a b : Bool) → (a || b) ≡ true → (a ≡ true) ⊎ (b ≡ true)
+either true b p = inl refl
+either false b p = inr p
 
 -- two comparisons are the same where one holds if the other does, and fails if the other does
 pub leb-same : (a b c d : ℕ) → (a ≤ b → c ≤ d) → (b < a → d < c) → leb a b ≡ leb c d

@@ -1,0 +1,26 @@
+-- `counts::rank` meets its contract: the test says whether the count is usable.
+use borrow.Author.Needs.{needs}
+use mathlib.Core.Path.{sym, _∙_}
+use Rattle.counts.specs.Newest.{rank}
+use Rattle.counts.proofs.rank.Statement.{statement}
+use Rattle.counts.proofs.rank.Tie as tie
+
+usable-requires : tie.Need-usable-requires
+usable-requires c κs = search needs
+
+mul-result : tie.Need-mul-result
+mul-result c = search needs
+
+add-result : tie.Need-add-result
+add-result c = search needs
+
+returns : tie.Need-returns
+unfolding rank
+returns c = simp (sym (c .before .usable .ensures) ∙ c .if1 .taken)
+
+returns-2 : tie.Need-returns-2
+unfolding rank
+returns-2 c = simp (sym (c .before .usable .ensures) ∙ c .if1 .left)
+
+pub rank-spec : {M : Type 1} → statement M
+rank-spec = tie.close (tie.spec usable-requires mul-result add-result returns returns-2)

@@ -1,0 +1,15 @@
+-- `junction::count_in_range` meets its contract: the range asked is that of the flow.
+use borrow.Author.Needs.{needs}
+use Rattle.junction.specs.Layout.{countInRange}
+use Rattle.junction.proofs.count_in_range.Statement.{statement}
+use Rattle.junction.proofs.count_in_range.Tie as tie
+
+number-in-requires : tie.Need-number-in-requires
+number-in-requires c κs = search needs
+
+returns : tie.Need-returns
+unfolding countInRange
+returns c = simp (c .number-in .ensures)
+
+pub count-in-range-spec : {M : Type 1} → statement M
+count-in-range-spec = tie.close (tie.spec number-in-requires returns)

@@ -1,0 +1,275 @@
+// A junction, and what the bodies of a junction file's fields say (document 01, "The junction file").
+ghost use mathlib.Core.Path.{_≡_};
+ghost use Rattle.junction.specs.Layout.{designDay, radiusInRange, sharesInRange, carInRange, carOf, tramInRange, tramOf, pedestrianInRange, pedestrianOf, cyclistInRange, cyclistOf, streamLengthRight, streamInRange, kindOf, streamOf, zoneInRange, zoneOf, countInRange, countOf};
+use fields::byte;
+use fields::byte_in;
+use fields::number;
+use fields::number_in;
+use streams::CarFigures;
+use streams::CyclistFigures;
+use streams::Kind;
+use streams::PedestrianFigures;
+use streams::Stream;
+use streams::TramFigures;
+
+// One stream's side of a zone: the stream's number, from 1, and its distances in decimetres.
+pub struct Side {
+    pub stream: u8,
+    pub clearing: u16,
+    pub reaching: u16,
+}
+
+// A conflict zone of two streams.
+pub struct Zone {
+    pub a: Side,
+    pub b: Side,
+}
+
+// A traffic count: the car stream's number, the day of the count, the flow in E/h.
+pub struct Count {
+    pub stream: u8,
+    pub day: u16,
+    pub flow: u16,
+}
+
+// How many of each a file has, and the tag of its last field so far, 0 before the first.
+pub struct Held {
+    pub last: u8,
+    pub streams: usize,
+    pub zones: usize,
+    pub counts: usize,
+}
+
+pub struct Junction {
+    // The design day.
+    pub day: u16,
+    pub held: Held,
+    pub streams: [Stream; 16],
+    pub zones: [Zone; 64],
+    pub counts: [Count; 128],
+}
+
+// The answer to a junction file: what the questions give, and the junction, which counts where nothing is refused.
+pub struct Reading {
+    pub verdict: fields::Verdict,
+    pub junction: Junction,
+}
+
+// The design day of a heading's body.
+pub fn design_day(b: &[u8]) -> u16
+    ensures { λ r. ⌜ r ≡ designDay (now (b .entry)) ⌝ }
+{
+    number(b, 2)
+}
+
+// Whether a stream's body is as long as its kind asks; that of an unknown kind is not judged.
+pub fn stream_length_right(b: &[u8]) -> bool
+    ensures { λ r. ⌜ r ≡ streamLengthRight (now (b .entry)) ⌝ }
+{
+    let n = b.len();
+    if n == 0 {
+        return false;
+    }
+    let kind = byte(b, 0);
+    if kind == 1 {
+        return n == 13;
+    }
+    if kind == 2 {
+        return n == 6;
+    }
+    if kind == 3 {
+        return n == 9;
+    }
+    if kind == 4 {
+        return n == 3;
+    }
+    true
+}
+
+// Whether the kind of a stream's body is known and each of its numbers in range.
+pub fn stream_in_range(b: &[u8]) -> bool
+    ensures { λ r. ⌜ r ≡ streamInRange (now (b .entry)) ⌝ }
+{
+    let kind = byte(b, 0);
+    if kind == 1 {
+        return car_in_range(b);
+    }
+    if kind == 2 {
+        return tram_in_range(b);
+    }
+    if kind == 3 {
+        return pedestrian_in_range(b);
+    }
+    if kind == 4 {
+        return cyclist_in_range(b);
+    }
+    false
+}
+
+// The stream of a body, read as a cyclist's where the kind is unknown.
+pub fn stream_of(b: &[u8]) -> Stream
+    ensures { λ r. ⌜ r ≡ streamOf (now (b .entry)) ⌝ }
+{
+    Stream {
+        phase: byte(b, 1),
+        kind: kind_of(b),
+    }
+}
+
+fn kind_of(b: &[u8]) -> Kind
+    ensures { λ r. ⌜ r ≡ kindOf (now (b .entry)) ⌝ }
+{
+    let kind = byte(b, 0);
+    if kind == 1 {
+        return car_of(b);
+    }
+    if kind == 2 {
+        return tram_of(b);
+    }
+    if kind == 3 {
+        return pedestrian_of(b);
+    }
+    cyclist_of(b)
+}
+
+fn car_in_range(b: &[u8]) -> bool
+    ensures { λ r. ⌜ r ≡ carInRange (now (b .entry)) ⌝ }
+{
+    byte_in(b, 1, 1, 6)
+        & byte_in(b, 2, 3, 5)
+        & byte_in(b, 3, 0, 1)
+        & radius_in_range(b)
+        & number_in(b, 6, 300, 1500)
+        & byte_in(b, 8, 1, 2)
+        & byte_in(b, 9, 0, 20)
+        & byte_in(b, 10, 1, 3)
+        & shares_in_range(b)
+}
+
+fn radius_in_range(b: &[u8]) -> bool
+    ensures { λ r. ⌜ r ≡ radiusInRange (now (b .entry)) ⌝ }
+{
+    (number(b, 4) == 0) | number_in(b, 4, 30, 9999)
+}
+
+fn shares_in_range(b: &[u8]) -> bool
+    ensures { λ r. ⌜ r ≡ sharesInRange (now (b .entry)) ⌝ }
+{
+    let sum = byte(b, 11) as u16 + byte(b, 12) as u16;
+    (sum <= 100) & ((number(b, 4) == 0) | (sum == 0))
+}
+
+fn car_of(b: &[u8]) -> Kind
+    ensures { λ r. ⌜ r ≡ carOf (now (b .entry)) ⌝ }
+{
+    Kind::Car(CarFigures {
+        amber: byte(b, 2),
+        flying: byte(b, 3) == 1,
+        radius: number(b, 4),
+        width: number(b, 6),
+        rows: byte(b, 8),
+        gradient: byte(b, 9),
+        conditions: byte(b, 10),
+        left: byte(b, 11),
+        right: byte(b, 12),
+    })
+}
+
+fn tram_in_range(b: &[u8]) -> bool
+    ensures { λ r. ⌜ r ≡ tramInRange (now (b .entry)) ⌝ }
+{
+    byte_in(b, 1, 1, 6) & byte_in(b, 2, 0, 1) & number_in(b, 3, 100, 600) & byte_in(b, 5, 1, 34)
+}
+
+fn tram_of(b: &[u8]) -> Kind
+    ensures { λ r. ⌜ r ≡ tramOf (now (b .entry)) ⌝ }
+{
+    Kind::Tram(TramFigures {
+        stop: byte(b, 2) == 1,
+        length: number(b, 3),
+        hourly: byte(b, 5),
+    })
+}
+
+fn pedestrian_in_range(b: &[u8]) -> bool
+    ensures { λ r. ⌜ r ≡ pedestrianInRange (now (b .entry)) ⌝ }
+{
+    byte_in(b, 1, 1, 6)
+        & byte_in(b, 2, 12, 15)
+        & number_in(b, 3, 10, 600)
+        & number_in(b, 5, 0, 9999)
+        & byte_in(b, 7, 0, 1)
+        & byte_in(b, 8, 0, 1)
+}
+
+fn pedestrian_of(b: &[u8]) -> Kind
+    ensures { λ r. ⌜ r ≡ pedestrianOf (now (b .entry)) ⌝ }
+{
+    Kind::Pedestrian(PedestrianFigures {
+        speed: byte(b, 2),
+        crossing: number(b, 3),
+        hourly: number(b, 5),
+        counted: byte(b, 7) == 1,
+        disturbed: byte(b, 8) == 1,
+    })
+}
+
+fn cyclist_in_range(b: &[u8]) -> bool
+    ensures { λ r. ⌜ r ≡ cyclistInRange (now (b .entry)) ⌝ }
+{
+    byte_in(b, 1, 1, 6) & byte_in(b, 2, 0, 1)
+}
+
+fn cyclist_of(b: &[u8]) -> Kind
+    ensures { λ r. ⌜ r ≡ cyclistOf (now (b .entry)) ⌝ }
+{
+    Kind::Cyclist(CyclistFigures {
+        counted: byte(b, 2) == 1,
+    })
+}
+
+// Whether each distance of a zone's body is in range.
+pub fn zone_in_range(b: &[u8]) -> bool
+    ensures { λ r. ⌜ r ≡ zoneInRange (now (b .entry)) ⌝ }
+{
+    number_in(b, 2, 0, 999)
+        & number_in(b, 4, 0, 999)
+        & number_in(b, 6, 0, 999)
+        & number_in(b, 8, 0, 999)
+}
+
+// The zone of a body.
+pub fn zone_of(b: &[u8]) -> Zone
+    ensures { λ r. ⌜ r ≡ zoneOf (now (b .entry)) ⌝ }
+{
+    Zone {
+        a: Side {
+            stream: byte(b, 0),
+            clearing: number(b, 2),
+            reaching: number(b, 4),
+        },
+        b: Side {
+            stream: byte(b, 1),
+            clearing: number(b, 6),
+            reaching: number(b, 8),
+        },
+    }
+}
+
+// Whether the flow of a count's body is in range.
+pub fn count_in_range(b: &[u8]) -> bool
+    ensures { λ r. ⌜ r ≡ countInRange (now (b .entry)) ⌝ }
+{
+    number_in(b, 5, 1, 9999)
+}
+
+// The count of a body; its file day is not kept.
+pub fn count_of(b: &[u8]) -> Count
+    ensures { λ r. ⌜ r ≡ countOf (now (b .entry)) ⌝ }
+{
+    Count {
+        stream: byte(b, 0),
+        day: number(b, 1),
+        flow: number(b, 5),
+    }
+}

@@ -1,0 +1,81 @@
+-- The entry of a pair of streams of a taken junction, by the exact times: a gap is at least the entry exactly where, at each zone of the
+-- pair, the last participant leaves no later than the first of the other reaches, that gap after the end of green.
+use Prim.Native.Nat.{ℕ, _-_, _≤_, _<_, zero-le}
+use native.Mathlib.Omega.{arith}
+use mathlib.Core.Bool.{true, _&&_, false≢true}
+use mathlib.Core.Logic.{_↔_}
+use mathlib.Core.Path.{_≡_, refl, sym, _∙_}
+use lib.Dec.{eqb}
+use borrow.Author.Tests.{leb-true, le-leb, eqb-true}
+use Rattle.laws.specs.Tests.{by-test, both-left, both-right}
+use Rattle.streams.specs.declared.Kind.{Kind}
+use Rattle.streams.specs.declared.Kind.the-variants.{Car, Tram, Pedestrian, Cyclist}
+use Rattle.times.specs.Comparison.{within}
+use Rattle.times.specs.Entry.{entry}
+use Rattle.times.specs.Least.{Moves, entry-least}
+use Rattle.times.specs.Times.{leaving, reaching}
+use Rattle.junction.specs.declared.Junction.{Junction}
+use Rattle.junction.specs.declared.Side.{Side}
+use Rattle.junction.specs.declared.Zone.{Zone}
+use Rattle.questions.specs.Questions.{streamAt, streamNumbered, zoneAt}
+use Rattle.reading.specs.Taken.{KindRanges, SideRight, ZoneRight, Taken}
+use Rattle.junction_figures.specs.Figures.{forward, backward, zoneEntry, pairEntry, pair-least}
+
+-- from one side of a zone to the other, that gap is enough
+unfoldable pub Clears : Junction → Side → Side → ℕ → Type 0
+Clears j x y gap =
+    within (leaving (streamNumbered j (x .stream) .kind) (x .clearing)) (reaching (streamNumbered j (y .stream) .kind) (y .reaching)) gap ≡ true
+
+moves : (k : Kind) → KindRanges k → Moves k
+moves (Car c) r = omega arith
+moves (Tram t) r = omega arith
+moves (Pedestrian p) r = omega arith
+moves (Cyclist y) r = tt
+
+module _ (j : Junction) (t : Taken j) where
+  side-moves : (x : Side) → SideRight j x → Moves (streamNumbered j (x .stream) .kind)
+  unfolding streamNumbered
+  side-moves x r = moves (streamAt j (x .stream - 1) .kind) (t .fields .streams (x .stream - 1) (omega arith) .figures)
+
+  side-clears : (x y : Side) → SideRight j x → (gap : ℕ)
+      → (entry (streamNumbered j (x .stream)) (streamNumbered j (y .stream)) (x .clearing) (y .reaching) ≤ gap) ↔ Clears j x y gap
+  unfolding Clears
+  side-clears x y r gap =
+      let same = entry-least (streamNumbered j (x .stream)) (streamNumbered j (y .stream)) (x .clearing) (y .reaching) (side-moves x r) (r .clearing) gap in
+      (λ h. same ∙ le-leb _ _ h, λ e. leb-true _ _ (sym same ∙ e))
+
+  -- a zone of streams n and m
+  zone-exact : (n m gap : ℕ) (z : Zone) → ZoneRight j z
+      → (zoneEntry j n m z ≤ gap)
+      ↔ ((forward n m z ≡ true → Clears j (z .a) (z .b) gap) × (backward n m z ≡ true → Clears j (z .b) (z .a) gap))
+  unfolding zoneEntry forward backward
+  zone-exact n m gap z r =
+      let ahead = side-clears (z .a) (z .b) (r .a) gap in
+      let behind = side-clears (z .b) (z .a) (r .b) gap in
+      by-test (eqb (z .a .stream) n && eqb (z .b .stream) m)
+      (λ f.
+      let n-is : z .a .stream ≡ n = eqb-true _ _ (both-left (eqb (z .a .stream) n) _ f) in
+      let m-is : z .b .stream ≡ m = eqb-true _ _ (both-right (eqb (z .a .stream) n) _ f) in
+      rw (f, ← n-is, ← m-is) (
+        λ h. (λ e. ahead .0 h, λ e. absurd (omega (arith, eqb-true (z .b .stream) (z .a .stream) (both-left _ _ e), r .below))),
+        λ both. ahead .1 (both .0 refl),
+      ))
+      (λ f.
+      by-test (eqb (z .b .stream) n && eqb (z .a .stream) m)
+      (λ g.
+      let n-is : z .b .stream ≡ n = eqb-true _ _ (both-left (eqb (z .b .stream) n) _ g) in
+      let m-is : z .a .stream ≡ m = eqb-true _ _ (both-right (eqb (z .b .stream) n) _ g) in
+      rw (f, g, ← n-is, ← m-is) (λ h. (λ e. absurd (false≢true e), λ e. behind .0 h), λ both. behind .1 (both .1 refl)))
+      (λ g. rw (f, g) (λ h. (λ e. absurd (false≢true e), λ e. absurd (false≢true e)), λ both. zero-le)))
+
+-- a gap is at least the entry from stream n to stream m exactly where it is enough at each of their zones, whichever of the two is the
+-- zone's stream a
+pub pair-exact : (j : Junction) → Taken j → (n m gap : ℕ)
+    → (pairEntry j n m ≤ gap)
+    ↔ ((i : ℕ) → i < j .held .zones → (forward n m (zoneAt j i) ≡ true → Clears j (zoneAt j i .a) (zoneAt j i .b) gap)
+    × (backward n m (zoneAt j i) ≡ true → Clears j (zoneAt j i .b) (zoneAt j i .a) gap))
+pair-exact j t n m gap =
+    let each = pair-least j n m gap in (
+      λ h i low. zone-exact j t n m gap (zoneAt j i) (t .fields .zones i low) .0 (each .0 h i low),
+      λ h. each .1 (λ i low. zone-exact j t n m gap (zoneAt j i) (t .fields .zones i low) .1 (h i low)),
+    )

@@ -1,0 +1,130 @@
+// The annex's figures of a junction that was read. Streams are named by their numbers, from 1.
+ghost use mathlib.Core.Path.{_≡_};
+ghost use Prim.Native.Nat.{max};
+ghost use Rattle.junction_figures.specs.Figures.{forward as forwardAt, backward as backwardAt, zoneEntry, pairEntry, sharesAt, firstShared, sharesZone, streamNeed, streamFlow, streamDay, kindSaturation, streamSaturation, streamRatio};
+use junction::Junction;
+use junction::Zone;
+use streams::Kind;
+use streams::Stream;
+
+// The entry from stream n to stream m, the largest over the zones of the pair; 0 where they share none.
+pub fn pair_entry(j: Junction, n: u8, m: u8) -> u16
+    ensures { λ r. ⌜ r ≡ pairEntry j n m ⌝ }
+{
+    let zones = j.held.zones;
+    let mut most: u16 = 0;
+    let mut i: usize = 0;
+    while i < zones {
+        let here = zone_entry(j, n, m, questions::zone_at(j, i));
+        most = larger(most, here);
+        i += 1;
+    }
+    most
+}
+
+fn larger(a: u16, b: u16) -> u16
+    ensures { λ r. ⌜ r ≡ max a b ⌝ }
+{
+    if a <= b { b } else { a }
+}
+
+fn zone_entry(j: Junction, n: u8, m: u8, z: Zone) -> u16
+    ensures { λ r. ⌜ r ≡ zoneEntry j n m z ⌝ }
+{
+    let from = questions::stream_numbered(j, n);
+    let to = questions::stream_numbered(j, m);
+    if forward(n, m, z) {
+        return times::entry(from, to, z.a.clearing, z.b.reaching);
+    }
+    if backward(n, m, z) {
+        return times::entry(from, to, z.b.clearing, z.a.reaching);
+    }
+    0
+}
+
+fn forward(n: u8, m: u8, z: Zone) -> bool
+    ensures { λ r. ⌜ r ≡ forwardAt n m z ⌝ }
+{
+    (z.a.stream == n) & (z.b.stream == m)
+}
+
+fn backward(n: u8, m: u8, z: Zone) -> bool
+    ensures { λ r. ⌜ r ≡ backwardAt n m z ⌝ }
+{
+    (z.b.stream == n) & (z.a.stream == m)
+}
+
+// Whether streams n and m share a zone.
+pub fn shares_zone(j: Junction, n: u8, m: u8) -> bool
+    ensures { λ r. ⌜ r ≡ sharesZone j n m ⌝ }
+{
+    first_shared(j, n, m) < j.held.zones
+}
+
+fn first_shared(j: Junction, n: u8, m: u8) -> usize
+    ensures { λ r. ⌜ r ≡ firstShared j n m ⌝ }
+{
+    let zones = j.held.zones;
+    let mut i: usize = 0;
+    while i < zones {
+        if shares_at(j, n, m, i) {
+            return i;
+        }
+        i += 1;
+    }
+    i
+}
+
+fn shares_at(j: Junction, n: u8, m: u8, i: usize) -> bool
+    ensures { λ r. ⌜ r ≡ sharesAt j n m i ⌝ }
+{
+    let z = questions::zone_at(j, i);
+    forward(n, m, z) | backward(n, m, z)
+}
+
+// The needed green of stream n at a cycle.
+pub fn stream_need(j: Junction, n: u8, cycle: u16) -> u32
+    ensures { λ r. ⌜ r ≡ streamNeed j n cycle ⌝ }
+{
+    flows::need(questions::stream_numbered(j, n), cycle)
+}
+
+// The flow of car stream n in E/h: the count with the greatest count day not after the design day, of equals the larger; 0 without one.
+pub fn stream_flow(j: Junction, n: u8) -> u16
+    ensures { λ r. ⌜ r ≡ streamFlow j n ⌝ }
+{
+    counts::flow(questions::newest_rank(j, n as usize))
+}
+
+// The day of the count that gives car stream n its flow, 0 without one.
+pub fn stream_day(j: Junction, n: u8) -> u16
+    ensures { λ r. ⌜ r ≡ streamDay j n ⌝ }
+{
+    counts::day(questions::newest_rank(j, n as usize))
+}
+
+// The saturation flow of car stream n in E/h, 0 for another kind.
+pub fn stream_saturation(j: Junction, n: u8) -> u32
+    ensures { λ r. ⌜ r ≡ streamSaturation j n ⌝ }
+{
+    saturation(questions::stream_numbered(j, n))
+}
+
+fn saturation(s: Stream) -> u32
+    ensures { λ r. ⌜ r ≡ kindSaturation (s .kind) ⌝ }
+{
+    let kind = s.kind;
+    match kind {
+        Kind::Car(c) => flows::saturation_flow(c),
+        Kind::Tram(_) => 0,
+        Kind::Pedestrian(_) => 0,
+        Kind::Cyclist(_) => 0,
+    }
+}
+
+// The flow ratio of car stream n in ten-thousandths.
+pub fn stream_ratio(j: Junction, n: u8) -> u32
+    ensures { λ r. ⌜ r ≡ streamRatio j n ⌝ }
+{
+    flows::flow_ratio(stream_flow(j, n), stream_saturation(j, n))
+}

@@ -1,0 +1,56 @@
+-- The largest of the first numbers of a sequence, and what that means.
+use Prim.Native.Nat.{ℕ, zero, suc, _+_, _≤_, _<_, max}
+use native.Mathlib.Nat.{le-of-eq, eq-zero-or-pos, le-max-left, le-max-right, le-trans, eq-or-lt-of-le, max-eq-left, max-eq-right}
+use native.Mathlib.Numerals.{add-one}
+use native.Mathlib.Omega.{arith}
+use mathlib.Core.Logic.{_↔_, ⊎-elim}
+use mathlib.Core.Path.{_≡_, refl, sym, _∙_}
+use lib.Dec.{leb}
+use borrow.Author.Tests.{leb-true, leb-false}
+use Rattle.laws.specs.Tests.{by-test}
+
+-- the largest of f 0, .. f (n - 1); 0 where there is none
+unfoldable pub largestOf : (ℕ → ℕ) → ℕ → ℕ
+largestOf f zero = 0
+largestOf f (suc n) = max (largestOf f n) (f n)
+
+module _ (f : ℕ → ℕ) where
+  -- where a loop that counts up begins and turns
+  pub largest-none : largestOf f 0 ≡ 0
+  unfolding largestOf
+  largest-none = refl
+
+  pub largest-next : (n : ℕ) → largestOf f (n + 1) ≡ max (largestOf f n) (f n)
+  unfolding largestOf
+  largest-next n = rw (add-one n)
+
+  -- none of them is larger
+  pub largest-bounds : (n i : ℕ) → i < n → f i ≤ largestOf f n
+  unfolding largestOf
+  largest-bounds zero i h = absurd (omega arith)
+  largest-bounds (suc n) i h =
+      let earlier = largest-bounds n i in
+      ⊎-elim (λ (same : suc i ≡ suc n). let e : i ≡ n = omega arith in rw e (le-max-right (largestOf f n) (f n)))
+      (λ (less : suc i < suc n). le-trans (earlier (omega arith)) (le-max-left (largestOf f n) (f n)))
+      (eq-or-lt-of-le h)
+
+  -- it is one of them, unless it is 0
+  pub largest-found : (n : ℕ) → 0 < largestOf f n → (i : ℕ) × (i < n) × (f i ≡ largestOf f n)
+  unfolding largestOf
+  largest-found zero h = absurd (omega arith)
+  largest-found (suc n) h =
+      let earlier = largest-found n in
+      by-test (leb (largestOf f n) (f n))
+      (λ e. (n, omega arith, sym (max-eq-right (leb-true _ _ e))))
+      (λ e. let more : f n < largestOf f n = leb-false _ _ e in
+      let found = earlier (omega arith) in
+      (found .0, omega arith, found .2 ∙ sym (max-eq-left (omega arith))))
+
+  -- it is at most g exactly where each of them is
+  pub largest-at-most : (n g : ℕ) → (largestOf f n ≤ g) ↔ ((i : ℕ) → i < n → f i ≤ g)
+  largest-at-most n g = (
+    λ h i low. le-trans (largest-bounds n i low) h,
+    λ each. ⊎-elim (λ (none : largestOf f n ≡ 0). omega arith)
+        (λ (some : 0 < largestOf f n). let found = largest-found n some in le-trans (le-of-eq (sym (found .2))) (each (found .0) (found .1)))
+        (eq-zero-or-pos (largestOf f n)),
+  )

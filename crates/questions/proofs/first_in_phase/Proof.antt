@@ -1,0 +1,47 @@
+-- `questions::first_in_phase` meets its contract: the invariant is that the first place from here on is the first of all.
+use Prim.Native.Nat.{_-_, _≤_}
+use mathlib.Core.Path.{_≡_, refl, sym, _∙_}
+use native.Mathlib.Omega.{arith}
+use Rattle.laws.specs.Search.{firstBelow, first-found, first-next, first-out}
+use Rattle.questions.specs.Questions.{inPhase, firstInPhase}
+use Rattle.questions.proofs.first_in_phase.Statement.{statement}
+use Rattle.questions.proofs.first_in_phase.Tie as tie
+
+abbrev Inv-loop : tie.InvT-loop
+Inv-loop j p n i₀ i = (i ≤ j .held .streams) × (firstBelow (inPhase j p) (j .held .streams) i ≡ firstInPhase j p)
+
+abbrev μ-loop : tie.MeasureT-loop
+μ-loop j p n i₀ i = j .held .streams - i
+
+loop-holds : tie.Need-loop-holds Inv-loop μ-loop
+unfolding firstInPhase
+loop-holds c = (omega arith, refl)
+
+in-phase-requires : tie.Need-in-phase-requires Inv-loop μ-loop
+in-phase-requires c κs = tt
+
+returns : tie.Need-returns Inv-loop μ-loop
+returns c =
+    let l = c .before .before .before .loop in
+    sym (first-found _ _ (l .i) (c .before .before .loop-test .taken) (sym (c .before .in-phase .ensures) ∙ c .if1 .taken)) ∙ l .inv .1
+
+add-i : tie.Need-add-i Inv-loop μ-loop
+add-i c = omega arith
+
+loop-less : tie.Need-loop-less Inv-loop μ-loop
+loop-less c = omega arith
+
+loop-again : tie.Need-loop-again Inv-loop μ-loop
+loop-again c =
+    let l = c .before .before .before .loop in (
+      omega arith,
+      sym (first-next _ _ (l .i) (c .before .before .loop-test .taken) (sym (c .before .in-phase .ensures) ∙ c .if1 .left)) ∙ l .inv .1,
+    )
+
+returns-2 : tie.Need-returns-2 Inv-loop μ-loop
+returns-2 c = sym (first-out _ _ (c .before .loop .i) (c .loop-test .left)) ∙ c .before .loop .inv .1
+
+pub first-in-phase-spec : {M : Type 1} → statement M
+first-in-phase-spec =
+    tie.close
+    (tie.spec Inv-loop μ-loop loop-holds in-phase-requires returns add-i loop-less loop-again returns-2)

@@ -1,0 +1,5 @@
+pub mod Chosen
+pub mod FileDays
+pub mod Reading
+pub mod Rest
+pub mod Taken
