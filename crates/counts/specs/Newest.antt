@@ -4,9 +4,16 @@ use Prim.Native.Nat.{ℕ, _+_, _*_, _/_, _%_}
 use mathlib.Core.Bool.{Bool, _&&_, cond}
 use lib.Dec.{leb, eqb}
 
+-- the range of a flow in E/h
+abbrev pub leastFlow : ℕ
+leastFlow = 1
+
+abbrev pub greatestFlow : ℕ
+greatestFlow = 9999
+
 -- a count of the stream asked for, not after the design day, with a flow in range
 unfoldable pub usable : ℕ → ℕ → ℕ → ℕ → ℕ → Bool
-usable asked design stream day flow = eqb stream asked && leb day design && leb 1 flow && leb flow 9999
+usable asked design stream day flow = eqb stream asked && leb day design && leb leastFlow flow && leb flow greatestFlow
 
 -- one number for a usable count, larger for a later day and, of equal days, for a larger flow; 0 for a count that is not usable
 unfoldable pub rank : ℕ → ℕ → ℕ → ℕ → ℕ → ℕ

@@ -3,7 +3,8 @@ ghost use mathlib.Core.Path.{_≡_};
 ghost use Prim.Native.Nat.{max};
 ghost use Rattle.counts.specs.Newest.{usable as isUsable, rank as rankOf, rankDay, rankFlow};
 
-// The larger of the rank so far and a count's: 0 where no usable count has come. asked is the car stream's number and design the
+// The larger of the rank so far and a count's. The rank of a usable count is its day times 65,536 plus its flow, and 0 of another; the
+// rank so far is 0 where no usable count has come. asked is the car stream's number and design the
 // design day; the rest is the count.
 pub fn newer(best: u32, asked: usize, design: u16, stream: u8, day: u16, flow: u16) -> u32
     ensures { λ r. ⌜ r ≡ max best (rankOf asked design stream day flow) ⌝ }
@@ -28,7 +29,7 @@ fn usable(asked: usize, design: u16, stream: u8, day: u16, flow: u16) -> bool
     (stream as usize == asked) & (day <= design) & (1 <= flow) & (flow <= 9999)
 }
 
-// The day of the count with a rank.
+// The day of the count with a rank, 0 where there is none.
 pub fn day(rank: u32) -> u16
     ensures { λ r. ⌜ r ≡ rankDay rank ⌝ }
 {

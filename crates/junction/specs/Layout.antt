@@ -5,12 +5,23 @@ use mathlib.Core.Bool.{Bool, true, false, _&&_, _||_, cond}
 use mathlib.Core.List.{List}
 use lib.Dec.{leb, eqb}
 use lib.ListN.{length}
+use Rattle.counts.specs.Newest.{leastFlow, greatestFlow}
 use Rattle.fields.specs.Bytes.{byteAt, numberAt, byteIn, numberIn}
 use Rattle.streams.specs.declared.Kind.{Kind}
 use Rattle.streams.specs.declared.Kind.the-variants.{Car, Tram, Pedestrian, Cyclist}
 use Rattle.streams.specs.declared.Stream.{Stream}
 use Rattle.junction.specs.declared.Zone.{Zone}
 use Rattle.junction.specs.declared.Count.{Count}
+
+-- at most 16 streams, 64 zones, 128 counts
+abbrev pub mostStreams : ℕ
+mostStreams = 16
+
+abbrev pub mostZones : ℕ
+mostZones = 64
+
+abbrev pub mostCounts : ℕ
+mostCounts = 128
 
 -- how long the bodies of 01, 03 and 04 are; a stream's length goes by its kind
 abbrev pub headingLength : ℕ
@@ -123,7 +134,7 @@ zoneOf b =
 
 -- 04 count, 7 bytes: car stream (1), count day (2), file day (2), flow in E/h (2; 1 to 9,999). The file day is not kept
 unfoldable pub countInRange : List ℕ → Bool
-countInRange b = numberIn b 5 1 9999
+countInRange b = numberIn b 5 leastFlow greatestFlow
 
 unfoldable pub countOf : List ℕ → Count
 countOf b = record { stream = byteAt b 0; day = numberAt b 1; flow = numberAt b 5 }

@@ -49,7 +49,7 @@ pub struct Junction {
     pub counts: [Count; 128],
 }
 
-// The answer to a junction file: what the questions give, and the junction, which counts where nothing is refused.
+// The answer to a junction file: what the questions give, and the junction, to be used only where nothing is refused.
 pub struct Reading {
     pub verdict: fields::Verdict,
     pub junction: Junction,

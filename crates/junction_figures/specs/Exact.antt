@@ -17,7 +17,7 @@ use Rattle.times.specs.Times.{leaving, reaching}
 use Rattle.junction.specs.declared.Junction.{Junction}
 use Rattle.junction.specs.declared.Side.{Side}
 use Rattle.junction.specs.declared.Zone.{Zone}
-use Rattle.questions.specs.Questions.{streamAt, streamNumbered, zoneAt}
+use Rattle.questions.specs.Questions.{streamAt, streamNumbered, numbered-at, zoneAt}
 use Rattle.reading.specs.Taken.{KindRanges, SideRight, ZoneRight, Taken}
 use Rattle.junction_figures.specs.Figures.{forward, backward, zoneEntry, pairEntry, pair-least}
 
@@ -34,8 +34,9 @@ moves (Cyclist y) r = tt
 
 module _ (j : Junction) (t : Taken j) where
   side-moves : (x : Side) → SideRight j x → Moves (streamNumbered j (x .stream) .kind)
-  unfolding streamNumbered
-  side-moves x r = moves (streamAt j (x .stream - 1) .kind) (t .fields .streams (x .stream - 1) (omega arith) .figures)
+  side-moves x r =
+      rw (numbered-at j (x .stream) (r .existing .0))
+      (moves (streamAt j (x .stream - 1) .kind) (t .fields .streams (x .stream - 1) (omega arith) .figures))
 
   side-clears : (x y : Side) → SideRight j x → (gap : ℕ)
       → (entry (streamNumbered j (x .stream)) (streamNumbered j (y .stream)) (x .clearing) (y .reaching) ≤ gap) ↔ Clears j x y gap

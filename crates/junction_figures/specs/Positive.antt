@@ -6,18 +6,18 @@ use mathlib.Core.Logic.{_↔_, ⊎-elim}
 use mathlib.Core.Path.{_≡_, refl, subst}
 use lib.Dec.{leb, eqb}
 use borrow.Author.Tests.{leb-true, eqb-false}
-use Rattle.laws.specs.Ranges.{every-at, Within}
+use Rattle.laws.specs.Ranges.{every-at, Between}
 use Rattle.laws.specs.Tests.{by-test}
 use Rattle.streams.specs.declared.CarFigures.{CarFigures}
 use Rattle.streams.specs.declared.Kind.the-variants.{Car}
 use Rattle.flows.specs.Meaning.{numerator, saturation-greatest, ratio-least}
 use Rattle.flows.specs.Saturation.{table1, listedFrom, straightFlow, turningFlow, baseFlow, gradientPercent, conditionsPercent, turnDivisor, saturationFlow}
 use Rattle.junction.specs.declared.Junction.{Junction}
-use Rattle.questions.specs.Questions.{streamAt, streamNumbered}
+use Rattle.questions.specs.Questions.{streamAt, numbered-at}
 use Rattle.reading.specs.Taken.{CarRanges, KindRanges, Taken}
 use Rattle.junction_figures.specs.Figures.{streamFlow, streamSaturation, streamRatio}
 
-straight-some : (w : ℕ) → Within 300 1500 w → 1000 ≤ straightFlow w
+straight-some : (w : ℕ) → Between 300 1500 w → 1000 ≤ straightFlow w
 straight-some w r =
     leb-true _ _ (every-at (λ v. leb 1000 (straightFlow v)) 1201 300 (unfold straightFlow listedFrom table1 in refl) w (r .0) (omega arith))
 
@@ -32,7 +32,7 @@ base-some : (c : CarFigures) → CarRanges c → 1000 ≤ baseFlow c
 unfolding baseFlow
 base-some c r =
     by-test (eqb (c .radius) 0) (λ e. rw e (straight-some (c .width) (r .width)))
-    (λ e. rw e (turning-some (c .radius) (c .rows) (⊎-elim (λ (z : c .radius ≡ 0). absurd (eqb-false _ _ e z)) (λ (w : Within 30 9999 (c .radius)). w .0) (r .radius))))
+    (λ e. rw e (turning-some (c .radius) (c .rows) (⊎-elim (λ (z : c .radius ≡ 0). absurd (eqb-false _ _ e z)) (λ (w : Between 30 9999 (c .radius)). w .0) (r .radius))))
 
 gradient-some : (g : ℕ) → g ≤ 20 → 70 ≤ gradientPercent g
 unfolding gradientPercent
@@ -56,7 +56,7 @@ saturation-some c r =
 -- y of a taken junction's car: the least whole number of ten-thousandths that is at least flow / S
 pub stream-ratio-least : (j : Junction) → Taken j → (i : ℕ) → i < j .held .streams → (c : CarFigures) → streamAt j i .kind ≡ Car c → (k : ℕ)
     → (streamRatio j (i + 1) ≤ k) ↔ (10000 * streamFlow j (i + 1) ≤ k * saturationFlow c)
-unfolding streamRatio streamSaturation streamNumbered
+unfolding streamRatio streamSaturation
 stream-ratio-least j t i low c is k =
-    rw (add-sub-cancel i 1, is)
+    rw (numbered-at j (i + 1) (omega arith), add-sub-cancel i 1, is)
     (ratio-least (streamFlow j (i + 1)) (saturationFlow c) k (saturation-some c (subst KindRanges is (t .fields .streams i low .figures))))

@@ -22,6 +22,7 @@ pub fn pair_entry(j: Junction, n: u8, m: u8) -> u16
     most
 }
 
+// At the width of an entry.
 fn larger(a: u16, b: u16) -> u16
     ensures { λ r. ⌜ r ≡ max a b ⌝ }
 {

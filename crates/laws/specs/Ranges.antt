@@ -8,8 +8,8 @@ use mathlib.Core.Path.{_≡_}
 use Rattle.laws.specs.Tests.{both-left, both-right}
 
 -- a number from low to high, both included
-abbrev pub Within : ℕ → ℕ → ℕ → Type 0
-Within low high n = (low ≤ n) × (n ≤ high)
+abbrev pub Between : ℕ → ℕ → ℕ → Type 0
+Between low high n = (low ≤ n) × (n ≤ high)
 
 -- the test passes at each of the n numbers from lo on
 abbrev pub everyOf : (ℕ → Bool) → ℕ → ℕ → Bool

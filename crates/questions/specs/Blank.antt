@@ -7,6 +7,7 @@ use Rattle.junction.specs.declared.Count.{Count}
 use Rattle.junction.specs.declared.Junction.{Junction}
 use Rattle.junction.specs.declared.Side.{Side}
 use Rattle.junction.specs.declared.Zone.{Zone}
+use Rattle.junction.specs.Layout.{mostStreams, mostZones, mostCounts}
 
 abbrev pub noStream : Stream
 noStream =
@@ -29,7 +30,7 @@ blank =
     record {
       day = 0;
       held = record { last = 0; streams = 0; zones = 0; counts = 0 };
-      streams = replicate 16 noStream;
-      zones = replicate 64 noZone;
-      counts = replicate 128 noCount;
+      streams = replicate mostStreams noStream;
+      zones = replicate mostZones noZone;
+      counts = replicate mostCounts noCount;
     }

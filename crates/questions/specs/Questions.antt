@@ -1,9 +1,12 @@
 -- The questions of a junction file, field by field and then of the whole (document 01, "Questions in order", 2 to 9).
-use Prim.Native.Nat.{ℕ, _+_, _-_}
+use Prim.Native.Nat.{ℕ, _+_, _-_, _<_}
+use native.Mathlib.Nat.{ne-of-gt}
 use mathlib.Core.Bool.{Bool, true, false, _&&_, _||_, not, cond}
 use mathlib.Core.List.{List}
+use mathlib.Core.Path.{_≡_}
 use lib.Dec.{leb, ltb, eqb}
 use lib.ListN.{length, getD}
+use borrow.Author.Tests.{ne-eqb}
 use Rattle.laws.specs.Largest.{largestOf}
 use Rattle.laws.specs.Search.{firstBelow}
 use Rattle.fields.specs.Bytes.{byteAt, fits, bodyOf}
@@ -17,7 +20,7 @@ use Rattle.junction.specs.declared.Count.{Count}
 use Rattle.junction.specs.declared.Held.{Held}
 use Rattle.junction.specs.declared.Junction.{Junction}
 use Rattle.junction.specs.declared.Zone.{Zone}
-use Rattle.junction.specs.Layout.{headingLength, zoneLength, countLength, streamLengthRight, streamInRange, zoneInRange, countInRange}
+use Rattle.junction.specs.Layout.{mostStreams, mostZones, mostCounts, headingLength, zoneLength, countLength, streamLengthRight, streamInRange, zoneInRange, countInRange}
 use Rattle.questions.specs.Blank.{noStream, noCount, noZone}
 use Rattle.counts.specs.Newest.{rank}
 
@@ -40,21 +43,25 @@ inRange tag b = byTag tag true (streamInRange b) (zoneInRange b) (countInRange b
 
 -- 6: is the count of its sort within limit?
 unfoldable pub withinLimit : ℕ → Held → Bool
-withinLimit tag h = byTag tag true (ltb (h .streams) 16) (ltb (h .zones) 64) (ltb (h .counts) 128)
+withinLimit tag h = byTag tag true (ltb (h .streams) mostStreams) (ltb (h .zones) mostZones) (ltb (h .counts) mostCounts)
 
--- what stands at a place, from 0; there are 16 places for streams, 128 for counts and 64 for zones
+-- what stands at a place, from 0; there are as many places as the limits allow
 unfoldable pub streamAt : Junction → ℕ → Stream
-streamAt j i = cond (ltb i 16) (getD (j .streams) i noStream) noStream
+streamAt j i = cond (ltb i mostStreams) (getD (j .streams) i noStream) noStream
 
 unfoldable pub countAt : Junction → ℕ → Count
-countAt j i = cond (ltb i 128) (getD (j .counts) i noCount) noCount
+countAt j i = cond (ltb i mostCounts) (getD (j .counts) i noCount) noCount
 
 unfoldable pub zoneAt : Junction → ℕ → Zone
-zoneAt j i = cond (ltb i 64) (getD (j .zones) i noZone) noZone
+zoneAt j i = cond (ltb i mostZones) (getD (j .zones) i noZone) noZone
 
--- the stream with a number, from 1
+-- the stream with a number, from 1; none has the number 0
 unfoldable pub streamNumbered : Junction → ℕ → Stream
-streamNumbered j n = streamAt j (n - 1)
+streamNumbered j n = cond (eqb n 0) noStream (streamAt j (n - 1))
+
+pub numbered-at : (j : Junction) (n : ℕ) → 0 < n → streamNumbered j n ≡ streamAt j (n - 1)
+unfolding streamNumbered
+numbered-at j n h = rw (ne-eqb n 0 (ne-of-gt h))
 
 unfoldable pub exists : Junction → ℕ → Bool
 exists j n = leb 1 n && leb n (j .held .streams)

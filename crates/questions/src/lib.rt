@@ -116,17 +116,17 @@ fn exists(j: Junction, n: u8) -> bool
     (1 <= n) & (n as usize <= j.held.streams)
 }
 
-// The stream with a number, from 1; an empty one where there is none.
+// The stream with a number, from 1; an empty place where no stream has the number.
 pub fn stream_numbered(j: Junction, n: u8) -> Stream
     ensures { λ r. ⌜ r ≡ streamNumbered j n ⌝ }
 {
     if n == 0 {
-        return stream_at(j, 0);
+        return no_stream();
     }
     stream_at(j, n as usize - 1)
 }
 
-// The stream at a place, from 0; an empty one past the sixteenth.
+// The stream at a place, from 0; an empty place past the sixteenth.
 pub fn stream_at(j: Junction, i: usize) -> Stream
     ensures { λ r. ⌜ r ≡ streamAt j i ⌝ }
 {
@@ -136,7 +136,7 @@ pub fn stream_at(j: Junction, i: usize) -> Stream
     no_stream()
 }
 
-// What stands in a place that no field has filled.
+// What stands in an empty place, which no field has filled: a car of phase 0 with all figures 0.
 pub fn no_stream() -> Stream
     ensures { λ r. ⌜ r ≡ noStream ⌝ }
 {
@@ -157,6 +157,7 @@ pub fn no_stream() -> Stream
     }
 }
 
+// What stands in an empty place for a count.
 pub fn no_count() -> Count
     ensures { λ r. ⌜ r ≡ noCount ⌝ }
 {
@@ -176,7 +177,7 @@ fn count_at(j: Junction, i: usize) -> Count
     no_count()
 }
 
-// The zone at a place, from 0; an empty one past the sixty-fourth.
+// The zone at a place, from 0; an empty place past the sixty-fourth.
 pub fn zone_at(j: Junction, i: usize) -> Zone
     ensures { λ r. ⌜ r ≡ zoneAt j i ⌝ }
 {
@@ -186,6 +187,7 @@ pub fn zone_at(j: Junction, i: usize) -> Zone
     no_zone()
 }
 
+// What stands in an empty place for a zone.
 pub fn no_zone() -> Zone
     ensures { λ r. ⌜ r ≡ noZone ⌝ }
 {

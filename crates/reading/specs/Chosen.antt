@@ -9,9 +9,9 @@ use mathlib.Core.Path.{_≡_, sym, _∙_}
 use lib.Dec.{eqb}
 use borrow.Author.Tests.{leb-true, le-leb, eqb-true, eqb-false, eq-eqb}
 use Rattle.laws.specs.Largest.{largest-bounds, largest-found}
-use Rattle.laws.specs.Ranges.{Within}
+use Rattle.laws.specs.Ranges.{Between}
 use Rattle.laws.specs.Tests.{by-test}
-use Rattle.counts.specs.Newest.{usable, rank, rankDay, rankFlow}
+use Rattle.counts.specs.Newest.{leastFlow, greatestFlow, usable, rank, rankDay, rankFlow}
 use Rattle.junction.specs.declared.Junction.{Junction}
 use Rattle.questions.specs.Questions.{countAt, rankAt, newestRank}
 
@@ -20,7 +20,7 @@ pub record UsableCount (j : Junction) (n i : ℕ) : Type 0 where
   pub held : i < j .held .counts
   pub ofStream : countAt j i .stream ≡ n
   pub notAfter : countAt j i .day ≤ j .day
-  pub flow : Within 1 9999 (countAt j i .flow)
+  pub flow : Between leastFlow greatestFlow (countAt j i .flow)
 
 -- a day and a flow are those of a usable count in the file; no usable count is newer; of the newest none is larger
 pub record Chosen (j : Junction) (n day flow : ℕ) : Type 0 where

@@ -11,10 +11,10 @@ use lib.Dec.{leb, ltb, eqb}
 use lib.ListN.{length, getD, set, length-set}
 use lib.Seq.{getD-set-same, getD-set-other}
 use borrow.Author.Tests.{leb-true, leb-false, ltb-true, ltb-false, eqb-true, eqb-false, lt-ltb, not-true, not-false}
-use Rattle.laws.specs.Ranges.{Within, everyOf, every-at}
+use Rattle.laws.specs.Ranges.{Between, everyOf, every-at}
 use Rattle.laws.specs.Search.{firstBelow, first-range, first-passes, first-fails}
 use Rattle.laws.specs.Tests.{by-test, either}
-use Rattle.counts.specs.Newest.{rankFlow}
+use Rattle.counts.specs.Newest.{leastFlow, greatestFlow, rankFlow}
 use Rattle.fields.specs.Bytes.{byteAt, numberAt, byteIn, numberIn, fieldEnd}
 use Rattle.fields.specs.Verdict.{isRefused, ask-passed}
 use Rattle.fields.specs.declared.Verdict.the-variants.{Passed}
@@ -29,32 +29,32 @@ use Rattle.junction.specs.declared.Junction.{Junction}
 use Rattle.junction.specs.declared.Reading.{Reading}
 use Rattle.junction.specs.declared.Side.{Side}
 use Rattle.junction.specs.declared.Zone.{Zone}
-use Rattle.junction.specs.Layout.{radiusInRange, sharesInRange, carInRange, carOf, tramInRange, tramOf, pedestrianInRange, pedestrianOf, cyclistInRange, cyclistOf, streamInRange, kindOf, streamOf, zoneInRange, zoneOf, countInRange, countOf}
+use Rattle.junction.specs.Layout.{mostStreams, mostZones, mostCounts, radiusInRange, sharesInRange, carInRange, carOf, tramInRange, tramOf, pedestrianInRange, pedestrianOf, cyclistInRange, cyclistOf, streamInRange, kindOf, streamOf, zoneInRange, zoneOf, countInRange, countOf}
 use Rattle.questions.specs.Blank.{noStream, noZone, noCount, blank}
 use Rattle.questions.specs.Passed.{BodyPassed, body-passed, field-passed}
-use Rattle.questions.specs.Questions.{inRange, withinLimit, refers, streamAt, countAt, zoneAt, streamNumbered, exists, isCar, zoneRefers, countRefers, fieldVerdict, inPhase, firstInPhase, phaseUsed, phaseFollows, phasesRight, carAt, firstCar, newestRank, lacksCount, firstLacking, countsVerdict, whole, wholeVerdict}
+use Rattle.questions.specs.Questions.{inRange, withinLimit, refers, streamAt, countAt, zoneAt, streamNumbered, numbered-at, exists, isCar, zoneRefers, countRefers, fieldVerdict, inPhase, firstInPhase, phaseUsed, phaseFollows, phasesRight, carAt, firstCar, newestRank, lacksCount, firstLacking, countsVerdict, whole, wholeVerdict}
 use Rattle.reading.specs.Chosen.{chosen}
 use Rattle.reading.specs.Reading.{withHeading, withStream, withZone, withCount, withField, afterField, readField, atEnd, readFrom, reading}
 use Rattle.reading.specs.Rest.{passed-field}
 
 -- the figures of a stream in range, by its kind
 pub record CarRanges (c : CarFigures) : Type 0 where
-  pub amber : Within 3 5 (c .amber)
-  pub radius : (c .radius ≡ 0) ⊎ Within 30 9999 (c .radius)
-  pub width : Within 300 1500 (c .width)
-  pub rows : Within 1 2 (c .rows)
+  pub amber : Between 3 5 (c .amber)
+  pub radius : (c .radius ≡ 0) ⊎ Between 30 9999 (c .radius)
+  pub width : Between 300 1500 (c .width)
+  pub rows : Between 1 2 (c .rows)
   pub gradient : c .gradient ≤ 20
-  pub conditions : Within 1 3 (c .conditions)
+  pub conditions : Between 1 3 (c .conditions)
   pub shares : c .left + c .right ≤ 100
   pub turning : (c .radius ≡ 0) ⊎ (c .left + c .right ≡ 0)
 
 pub record TramRanges (t : TramFigures) : Type 0 where
-  pub length : Within 100 600 (t .length)
-  pub hourly : Within 1 34 (t .hourly)
+  pub length : Between 100 600 (t .length)
+  pub hourly : Between 1 34 (t .hourly)
 
 pub record PedestrianRanges (p : PedestrianFigures) : Type 0 where
-  pub speed : Within 12 15 (p .speed)
-  pub crossing : Within 10 600 (p .crossing)
+  pub speed : Between 12 15 (p .speed)
+  pub crossing : Between 10 600 (p .crossing)
   pub hourly : p .hourly ≤ 9999
 
 abbrev pub KindRanges : Kind → Type 0
@@ -64,12 +64,12 @@ KindRanges (Pedestrian p) = PedestrianRanges p
 KindRanges (Cyclist y) = Unit {0}
 
 pub record StreamInRange (x : Stream) : Type 0 where
-  pub phase : Within 1 6 (x .phase)
+  pub phase : Between 1 6 (x .phase)
   pub figures : KindRanges (x .kind)
 
 -- a zone's side: its stream exists, its distances are in range
 pub record SideRight (j : Junction) (x : Side) : Type 0 where
-  pub existing : Within 1 (j .held .streams) (x .stream)
+  pub existing : Between 1 (j .held .streams) (x .stream)
   pub clearing : x .clearing ≤ 999
   pub reaching : x .reaching ≤ 999
 
@@ -82,18 +82,18 @@ pub record ZoneRight (j : Junction) (z : Zone) : Type 0 where
 
 -- a count is of an existing car, with a flow in range
 pub record CountRight (j : Junction) (c : Count) : Type 0 where
-  pub existing : Within 1 (j .held .streams) (c .stream)
+  pub existing : Between 1 (j .held .streams) (c .stream)
   pub car : isCar (streamNumbered j (c .stream) .kind) ≡ true
-  pub flow : Within 1 9999 (c .flow)
+  pub flow : Between leastFlow greatestFlow (c .flow)
 
 -- the fields that pass questions 2 to 7: how many there are of each sort, and that each is right
 pub record FieldsRight (j : Junction) : Type 0 where
-  pub streamPlaces : length (j .streams) ≡ 16
-  pub zonePlaces : length (j .zones) ≡ 64
-  pub countPlaces : length (j .counts) ≡ 128
-  pub fewStreams : j .held .streams ≤ 16
-  pub fewZones : j .held .zones ≤ 64
-  pub fewCounts : j .held .counts ≤ 128
+  pub streamPlaces : length (j .streams) ≡ mostStreams
+  pub zonePlaces : length (j .zones) ≡ mostZones
+  pub countPlaces : length (j .counts) ≡ mostCounts
+  pub fewStreams : j .held .streams ≤ mostStreams
+  pub fewZones : j .held .zones ≤ mostZones
+  pub fewCounts : j .held .counts ≤ mostCounts
   pub streams : (i : ℕ) → i < j .held .streams → StreamInRange (streamAt j i)
   pub zones : (i : ℕ) → i < j .held .zones → ZoneRight j (zoneAt j i)
   pub counts : (i : ℕ) → i < j .held .counts → CountRight j (countAt j i)
@@ -107,8 +107,8 @@ pub record UsedPhase (j : Junction) (p : ℕ) : Type 0 where
 -- the phases used are exactly 1 to the last, which is 2 or more
 pub record PhasesRight (j : Junction) : Type 0 where
   pub last : ℕ
-  pub twoOrMore : Within 2 6 last
-  pub used : (p : ℕ) → UsedPhase j p ↔ Within 1 last p
+  pub twoOrMore : Between 2 6 last
+  pub used : (p : ℕ) → UsedPhase j p ↔ Between 1 last p
 
 -- a car is there
 pub record HasCar (j : Junction) : Type 0 where
@@ -119,7 +119,7 @@ pub record HasCar (j : Junction) : Type 0 where
 -- a usable count gives the stream with a number its flow
 pub record HasFlow (j : Junction) (n : ℕ) : Type 0 where
   pub counted : 0 < newestRank j n
-  pub flow : Within 1 9999 (rankFlow (newestRank j n))
+  pub flow : Between leastFlow greatestFlow (rankFlow (newestRank j n))
 
 -- a junction that is taken
 pub record Taken (j : Junction) : Type 0 where
@@ -197,9 +197,8 @@ record Grown (j k : Junction) : Type 0 where
   same : (i : ℕ) → i < j .held .streams → streamAt k i ≡ streamAt j i
 
 module _ (j k : Junction) (g : Grown j k) where
-  numbered-same : (n : ℕ) → Within 1 (j .held .streams) n → streamNumbered k n ≡ streamNumbered j n
-  unfolding streamNumbered
-  numbered-same n h = g .same (n - 1) (omega arith)
+  numbered-same : (n : ℕ) → Between 1 (j .held .streams) n → streamNumbered k n ≡ streamNumbered j n
+  numbered-same n h = numbered-at k n (h .0) ∙ g .same (n - 1) (omega arith) ∙ sym (numbered-at j n (h .0))
 
   side-grown : (x : Side) → SideRight j x → SideRight k x
   side-grown x r = omega arith
@@ -414,21 +413,21 @@ module _ (j : Junction) where
     lastPhase : ℕ
     lastPhase = firstBelow unused 6 2
 
-    last-range : Within 2 6 lastPhase
+    last-range : Between 2 6 lastPhase
     unfolding lastPhase
     last-range = first-range unused 6 2 (omega arith)
 
-    phase-to-last : (p : ℕ) → UsedPhase j p → Within 1 lastPhase p
+    phase-to-last : (p : ℕ) → UsedPhase j p → Between 1 lastPhase p
     unfolding unused lastPhase
     phase-to-last p u =
-        let six : Within 1 6 p = rw (u .phase) at (r .streams (u .place) (u .held) .phase) in
+        let six : Between 1 6 p = rw (u .phase) at (r .streams (u .place) (u .held) .phase) in
         by-test (leb p lastPhase) (λ e. (six .0, leb-true _ _ e))
         (λ e. let past : lastPhase < p = leb-false _ _ e in
         let there : lastPhase + 1 + (p - (lastPhase + 1)) ≡ p = omega arith in
         let next = phases-down (p - (lastPhase + 1)) (lastPhase + 1) (omega (arith, last-range)) (omega arith) (rw there (used-phase p .1 u)) in
         absurd (true≢false (sym next ∙ not-true _ (first-passes unused 6 2 (omega arith) (omega arith)))))
 
-    phase-from-first : (p : ℕ) → Within 1 lastPhase p → UsedPhase j p
+    phase-from-first : (p : ℕ) → Between 1 lastPhase p → UsedPhase j p
     unfolding unused lastPhase phasesRight
     phase-from-first p w =
         let facts = simp and-eq-true-iff at h in

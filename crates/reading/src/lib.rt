@@ -7,16 +7,12 @@ ghost use Rattle.questions.specs.Blank.{blank as blankOf};
 ghost use Rattle.questions.specs.Questions.{withinLimit, bodyVerdict};
 ghost use Rattle.reading.specs.Reading.{withHeading, withStream, withZone, withCount, withField, afterField, readField, atEnd, readFrom, reading};
 use fields::Verdict;
-use junction::Count;
 use junction::Held;
 use junction::Junction;
 use junction::Reading;
-use streams::CarFigures;
-use streams::Kind;
-use streams::Stream;
 
-// The answer to every sequence of bytes: a junction, or the first refusal with its number and place. The junction counts only where the
-// verdict is no refusal.
+// The answer to every sequence of bytes: a junction, or the first refusal with its number and place. The junction is to be used only where
+// nothing is refused.
 pub fn read(file: &[u8]) -> Reading
     ensures { λ r. ⌜ r ≡ reading (now (file .entry)) ⌝ }
 {

@@ -16,10 +16,6 @@ use Rattle.times.specs.Comparison.{ratioRatio, ratioRoot, rootRatio, roo
 use Rattle.times.specs.Times.{carTime, carLeaving, stopLeaving, tramLeaving, leaving, passing, carReaching, tramReaching, countedReaching, reaching}
 use Rattle.times.specs.Entry.{entry, gap-decides, gap-least}
 
--- no time at all
-abbrev atOnce : Time
-atOnce = Ratio 0 1
-
 -- a reaching time that is not below 0, and less by no more than the gap
 abbrev NotEarly : ℕ → Time → Type 0
 NotEarly g (Ratio n d) = Unit {0}
