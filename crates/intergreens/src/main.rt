@@ -83,27 +83,27 @@ fn rows(j: Junction) {
     let n = j.held.streams;
     for i in 0..16 {
         if i < n {
-            row(j, i as u8 + 1);
+            row(j, i + 1);
         }
     }
 }
 
-fn row(j: Junction, from: u8) {
+fn row(j: Junction, from: usize) {
     column(from as u64);
     cells(j, from);
     put(b"\n");
 }
 
-fn cells(j: Junction, from: u8) {
+fn cells(j: Junction, from: usize) {
     let n = j.held.streams;
     for i in 0..16 {
         if i < n {
-            cell(j, from, i as u8 + 1);
+            cell(j, from, i + 1);
         }
     }
 }
 
-fn cell(j: Junction, from: u8, to: u8) {
+fn cell(j: Junction, from: usize, to: usize) {
     if junction_figures::shares_zone(j, from, to) {
         column(junction_figures::pair_entry(j, from, to) as u64);
         return;
@@ -120,12 +120,12 @@ fn lines(j: Junction) {
     let n = j.held.streams;
     for i in 0..16 {
         if i < n {
-            line(j, i as u8 + 1);
+            line(j, i + 1);
         }
     }
 }
 
-fn line(j: Junction, n: u8) {
+fn line(j: Junction, n: usize) {
     let s = questions::stream_numbered(j, n);
     column(n as u64);
     put(b"  phase ");
@@ -134,7 +134,7 @@ fn line(j: Junction, n: u8) {
     put(b"\n");
 }
 
-fn kind(j: Junction, n: u8, s: Stream) {
+fn kind(j: Junction, n: usize, s: Stream) {
     let kind = s.kind;
     match kind {
         Kind::Car(_) => car(j, n),
@@ -150,7 +150,7 @@ fn kind(j: Junction, n: u8, s: Stream) {
     }
 }
 
-fn need(j: Junction, n: u8, cycle: u16) {
+fn need(j: Junction, n: usize, cycle: u16) {
     io::print_decimal(
         STDOUT_FILENO,
         junction_figures::stream_need(j, n, cycle) as u64,
@@ -158,7 +158,7 @@ fn need(j: Junction, n: u8, cycle: u16) {
     put(b" s");
 }
 
-fn car(j: Junction, n: u8) {
+fn car(j: Junction, n: usize) {
     put(b"  car         needs ");
     need(j, n, LONGEST);
     put(b"   flow ");
@@ -175,7 +175,7 @@ fn car(j: Junction, n: u8) {
     put(b" ten-thousandths");
 }
 
-fn tram(j: Junction, n: u8, t: TramFigures) {
+fn tram(j: Junction, n: usize, t: TramFigures) {
     let cycle = flows::longest_cycle(t.hourly);
     put(b"  tram        needs ");
     need(j, n, cycle);

@@ -8,7 +8,7 @@ use streams::Kind;
 use streams::Stream;
 
 // The entry from stream n to stream m, the largest over the zones of the pair; 0 where they share none.
-pub fn pair_entry(j: Junction, n: u8, m: u8) -> u16
+pub fn pair_entry(j: Junction, n: usize, m: usize) -> u16
     ensures { λ r. ⌜ r ≡ pairEntry j n m ⌝ }
 {
     let zones = j.held.zones;
@@ -29,7 +29,7 @@ fn larger(a: u16, b: u16) -> u16
     if a <= b { b } else { a }
 }
 
-fn zone_entry(j: Junction, n: u8, m: u8, z: Zone) -> u16
+fn zone_entry(j: Junction, n: usize, m: usize, z: Zone) -> u16
     ensures { λ r. ⌜ r ≡ zoneEntry j n m z ⌝ }
 {
     let from = questions::stream_numbered(j, n);
@@ -43,26 +43,26 @@ fn zone_entry(j: Junction, n: u8, m: u8, z: Zone) -> u16
     0
 }
 
-fn forward(n: u8, m: u8, z: Zone) -> bool
+fn forward(n: usize, m: usize, z: Zone) -> bool
     ensures { λ r. ⌜ r ≡ forwardAt n m z ⌝ }
 {
-    (z.a.stream == n) & (z.b.stream == m)
+    (z.a.stream as usize == n) & (z.b.stream as usize == m)
 }
 
-fn backward(n: u8, m: u8, z: Zone) -> bool
+fn backward(n: usize, m: usize, z: Zone) -> bool
     ensures { λ r. ⌜ r ≡ backwardAt n m z ⌝ }
 {
-    (z.b.stream == n) & (z.a.stream == m)
+    (z.b.stream as usize == n) & (z.a.stream as usize == m)
 }
 
 // Whether streams n and m share a zone.
-pub fn shares_zone(j: Junction, n: u8, m: u8) -> bool
+pub fn shares_zone(j: Junction, n: usize, m: usize) -> bool
     ensures { λ r. ⌜ r ≡ sharesZone j n m ⌝ }
 {
     first_shared(j, n, m) < j.held.zones
 }
 
-fn first_shared(j: Junction, n: u8, m: u8) -> usize
+fn first_shared(j: Junction, n: usize, m: usize) -> usize
     ensures { λ r. ⌜ r ≡ firstShared j n m ⌝ }
 {
     let zones = j.held.zones;
@@ -76,7 +76,7 @@ fn first_shared(j: Junction, n: u8, m: u8) -> usize
     i
 }
 
-fn shares_at(j: Junction, n: u8, m: u8, i: usize) -> bool
+fn shares_at(j: Junction, n: usize, m: usize, i: usize) -> bool
     ensures { λ r. ⌜ r ≡ sharesAt j n m i ⌝ }
 {
     let z = questions::zone_at(j, i);
@@ -84,28 +84,28 @@ fn shares_at(j: Junction, n: u8, m: u8, i: usize) -> bool
 }
 
 // The needed green of stream n at a cycle.
-pub fn stream_need(j: Junction, n: u8, cycle: u16) -> u32
+pub fn stream_need(j: Junction, n: usize, cycle: u16) -> u32
     ensures { λ r. ⌜ r ≡ streamNeed j n cycle ⌝ }
 {
     flows::need(questions::stream_numbered(j, n), cycle)
 }
 
 // The flow of car stream n in E/h: the count with the greatest count day not after the design day, of equals the larger; 0 without one.
-pub fn stream_flow(j: Junction, n: u8) -> u16
+pub fn stream_flow(j: Junction, n: usize) -> u16
     ensures { λ r. ⌜ r ≡ streamFlow j n ⌝ }
 {
-    counts::flow(questions::newest_rank(j, n as usize))
+    counts::flow(questions::newest_rank(j, n))
 }
 
 // The day of the count that gives car stream n its flow, 0 without one.
-pub fn stream_day(j: Junction, n: u8) -> u16
+pub fn stream_day(j: Junction, n: usize) -> u16
     ensures { λ r. ⌜ r ≡ streamDay j n ⌝ }
 {
-    counts::day(questions::newest_rank(j, n as usize))
+    counts::day(questions::newest_rank(j, n))
 }
 
 // The saturation flow of car stream n in E/h, 0 for another kind.
-pub fn stream_saturation(j: Junction, n: u8) -> u32
+pub fn stream_saturation(j: Junction, n: usize) -> u32
     ensures { λ r. ⌜ r ≡ streamSaturation j n ⌝ }
 {
     saturation(questions::stream_numbered(j, n))
@@ -124,7 +124,7 @@ fn saturation(s: Stream) -> u32
 }
 
 // The flow ratio of car stream n in ten-thousandths.
-pub fn stream_ratio(j: Junction, n: u8) -> u32
+pub fn stream_ratio(j: Junction, n: usize) -> u32
     ensures { λ r. ⌜ r ≡ streamRatio j n ⌝ }
 {
     flows::flow_ratio(stream_flow(j, n), stream_saturation(j, n))

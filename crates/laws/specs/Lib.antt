@@ -1,6 +1,9 @@
+pub mod Filled
 pub mod Largest
 pub mod Ranges
 pub mod Rounding
 pub mod Search
+pub mod Shares
 pub mod Squares
+pub mod Sums
 pub mod Tests

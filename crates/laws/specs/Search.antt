@@ -3,7 +3,7 @@ use Prim.Native.Nat.{ℕ, zero, suc, _+_, _-_, _≤_, _<_, zero-le}
 use native.Mathlib.Nat.{sub-eq-zero-of-le, eq-or-lt-of-le}
 use native.Mathlib.Omega.{arith}
 use mathlib.Core.Bool.{Bool, true, false}
-use mathlib.Core.Path.{_≡_, sym, _∙_}
+use mathlib.Core.Path.{_≡_, refl, sym, _∙_}
 use mathlib.Core.Logic.{⊎-elim}
 use lib.Dec.{leb}
 use borrow.Author.Tests.{leb-true, leb-false}
@@ -88,3 +88,17 @@ module _ (f : ℕ → Bool) where
       by-test (leb (firstBelow f n 0) k)
       (λ e. let low = leb-true _ _ e in stays _ k low (first-passes n 0 zero-le (omega arith)) ∙ sym e)
       (λ e. first-fails n 0 k zero-le (leb-false _ _ e) ∙ sym e)
+
+-- two tests that agree from t on find the same
+of-same : (f g : ℕ → Bool) (fuel t : ℕ) → ((k : ℕ) → t ≤ k → k < t + fuel → f k ≡ g k) → firstOf f fuel t ≡ firstOf g fuel t
+unfolding firstOf
+of-same f g zero t same = refl
+of-same f g (suc fuel) t same =
+    let later = of-same f g fuel (t + 1) (λ k low high. same k (omega arith) (omega arith)) in
+    let here : g t ≡ f t = sym (same t (omega arith) (omega arith)) in
+    by-test (f t) (λ e. of-found f fuel t e ∙ sym (of-found g fuel t (here ∙ e)))
+    (λ e. of-next f fuel t e ∙ later ∙ sym (of-next g fuel t (here ∙ e)))
+
+pub first-same : (f g : ℕ → Bool) (n t : ℕ) → ((k : ℕ) → t ≤ k → k < n → f k ≡ g k) → firstBelow f n t ≡ firstBelow g n t
+unfolding firstBelow
+first-same f g n t same = of-same f g (n - t) t (λ k low high. same k low (omega arith))

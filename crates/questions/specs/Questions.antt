@@ -63,6 +63,14 @@ pub numbered-at : (j : Junction) (n : ℕ) → 0 < n → streamNumbered j n ≡ 
 unfolding streamNumbered
 numbered-at j n h = rw (ne-eqb n 0 (ne-of-gt h))
 
+-- the zone with a number, from 1
+unfoldable pub zoneNumbered : Junction → ℕ → Zone
+zoneNumbered j n = cond (eqb n 0) noZone (zoneAt j (n - 1))
+
+pub zone-numbered-at : (j : Junction) (n : ℕ) → 0 < n → zoneNumbered j n ≡ zoneAt j (n - 1)
+unfolding zoneNumbered
+zone-numbered-at j n h = rw (ne-eqb n 0 (ne-of-gt h))
+
 unfoldable pub exists : Junction → ℕ → Bool
 exists j n = leb 1 n && leb n (j .held .streams)
 

@@ -1,7 +1,7 @@
 // The questions of a junction file, 3 to 9 (document 01, "Questions in order").
 ghost use mathlib.Core.Path.{_≡_};
 ghost use Prim.Native.Nat.{_<_};
-ghost use Rattle.questions.specs.Questions.{inOrder, lengthRight, inRange, withinLimit, streamNumbered, streamAt, countAt, zoneAt, exists as existsIn, isCar, zoneRefers, countRefers, refers as refersTo, bodyVerdict, inPhase, firstInPhase, phaseUsed, phaseFollows, phasesRight, carAt, firstCar, newestRank, lacksCount, firstLacking, countsVerdict, whole as wholeOf, wholeVerdict};
+ghost use Rattle.questions.specs.Questions.{inOrder, lengthRight, inRange, withinLimit, streamNumbered, streamAt, countAt, zoneAt, zoneNumbered, exists as existsIn, isCar, zoneRefers, countRefers, refers as refersTo, bodyVerdict, inPhase, firstInPhase, phaseUsed, phaseFollows, phasesRight, carAt, firstCar, newestRank, lacksCount, firstLacking, countsVerdict, whole as wholeOf, wholeVerdict};
 ghost use Rattle.questions.specs.Blank.{noStream, noCount, noZone};
 use fields::Verdict;
 use fields::ask;
@@ -98,15 +98,15 @@ fn refers(tag: u8, j: Junction, b: &[u8]) -> bool
 fn zone_refers(j: Junction, a: u8, b: u8) -> bool
     ensures { λ r. ⌜ r ≡ zoneRefers j a b ⌝ }
 {
-    let first = stream_numbered(j, a);
-    let second = stream_numbered(j, b);
+    let first = stream_numbered(j, a as usize);
+    let second = stream_numbered(j, b as usize);
     exists(j, a) & exists(j, b) & (a < b) & !(first.phase == second.phase)
 }
 
 fn count_refers(j: Junction, n: u8) -> bool
     ensures { λ r. ⌜ r ≡ countRefers j n ⌝ }
 {
-    let s = stream_numbered(j, n);
+    let s = stream_numbered(j, n as usize);
     exists(j, n) & is_car(s)
 }
 
@@ -117,13 +117,13 @@ fn exists(j: Junction, n: u8) -> bool
 }
 
 // The stream with a number, from 1; an empty place where no stream has the number.
-pub fn stream_numbered(j: Junction, n: u8) -> Stream
+pub fn stream_numbered(j: Junction, n: usize) -> Stream
     ensures { λ r. ⌜ r ≡ streamNumbered j n ⌝ }
 {
     if n == 0 {
         return no_stream();
     }
-    stream_at(j, n as usize - 1)
+    stream_at(j, n - 1)
 }
 
 // The stream at a place, from 0; an empty place past the sixteenth.
@@ -175,6 +175,16 @@ fn count_at(j: Junction, i: usize) -> Count
         return j.counts[i];
     }
     no_count()
+}
+
+// The zone with a number, from 1; an empty place where no zone has the number.
+pub fn zone_numbered(j: Junction, number: usize) -> Zone
+    ensures { λ r. ⌜ r ≡ zoneNumbered j number ⌝ }
+{
+    if number == 0 {
+        return no_zone();
+    }
+    zone_at(j, number - 1)
 }
 
 // The zone at a place, from 0; an empty place past the sixty-fourth.

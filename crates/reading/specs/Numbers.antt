@@ -1,51 +1,40 @@
 -- The numbers of refusals: a junction file is refused with a number from 1 to 9, and number 0 says that it is taken.
 use Prim.Native.Nat.{ℕ, zero, suc, _+_}
 use native.Mathlib.Omega.{arith}
-use mathlib.Core.Bool.{Bool, true, false}
 use mathlib.Core.List.{List}
 use mathlib.Core.Logic.{_↔_}
-use mathlib.Core.Path.{_≡_, refl, ap}
+use mathlib.Core.Path.{_≡_}
 use lib.Dec.{leb, ltb}
 use lib.ListN.{length}
-use Rattle.laws.specs.Ranges.{Between}
 use Rattle.laws.specs.Tests.{by-test}
 use Rattle.fields.specs.Bytes.{byteAt, fits, fieldEnd, bodyOf}
-use Rattle.fields.specs.Verdict.{numberOf, isRefused, ask}
-use Rattle.fields.specs.declared.Verdict.{Verdict}
-use Rattle.fields.specs.declared.Verdict.the-variants.{Passed, Refused}
+use Rattle.fields.specs.Numbers.{Numbered, ask-numbered, passed-number}
+use Rattle.fields.specs.Verdict.{numberOf, isRefused}
+use Rattle.fields.specs.declared.Verdict.the-variants.{Passed}
 use Rattle.junction.specs.declared.Junction.{Junction}
 use Rattle.questions.specs.Blank.{blank}
 use Rattle.questions.specs.Questions.{inOrder, lengthRight, inRange, withinLimit, refers, bodyVerdict, fieldVerdict, firstLacking, countsVerdict, whole, wholeVerdict}
 use Rattle.reading.specs.Reading.{afterField, readField, atEnd, readFrom, reading}
 
--- no refusal, or one with a number from 1 to 9
-abbrev Numbered : Verdict → Type 0
-Numbered Passed = Unit {0}
-Numbered (Refused number place) = Between 1 9 number
-
-ask-numbered : (answer : Bool) (number place : ℕ) (later : Verdict) → Between 1 9 number → Numbered later → Numbered (ask answer number place later)
-ask-numbered true number place later here there = there
-ask-numbered false number place later here there = here
-
-field-numbered : (s : List ℕ) (at : ℕ) (j : Junction) → Numbered (fieldVerdict s at j)
+field-numbered : (s : List ℕ) (at : ℕ) (j : Junction) → Numbered 9 (fieldVerdict s at j)
 unfolding fieldVerdict bodyVerdict
 field-numbered s at j =
     let tag = byteAt s at in
     let b = bodyOf s at in
-    ask-numbered (fits s at) 2 at _ (omega arith)
-    (ask-numbered (inOrder (j .held .last) tag) 3 at _ (omega arith)
-    (ask-numbered (lengthRight tag b) 4 at _ (omega arith)
-    (ask-numbered (inRange tag b) 5 at _ (omega arith)
-    (ask-numbered (withinLimit tag (j .held)) 6 at _ (omega arith)
-    (ask-numbered (refers tag j b) 7 at Passed (omega arith) tt)))))
+    ask-numbered 9 (fits s at) 2 at _ (omega arith)
+    (ask-numbered 9 (inOrder (j .held .last) tag) 3 at _ (omega arith)
+    (ask-numbered 9 (lengthRight tag b) 4 at _ (omega arith)
+    (ask-numbered 9 (inRange tag b) 5 at _ (omega arith)
+    (ask-numbered 9 (withinLimit tag (j .held)) 6 at _ (omega arith)
+    (ask-numbered 9 (refers tag j b) 7 at Passed (omega arith) tt)))))
 
-end-numbered : (size : ℕ) (j : Junction) → Numbered (atEnd size j .verdict)
+end-numbered : (size : ℕ) (j : Junction) → Numbered 9 (atEnd size j .verdict)
 unfolding atEnd wholeVerdict countsVerdict
 end-numbered size j =
-    ask-numbered (whole j) 8 size _ (omega arith)
-    (ask-numbered (leb (j .held .streams) (firstLacking j)) 9 (firstLacking j + 1) Passed (omega arith) tt)
+    ask-numbered 9 (whole j) 8 size _ (omega arith)
+    (ask-numbered 9 (leb (j .held .streams) (firstLacking j)) 9 (firstLacking j + 1) Passed (omega arith) tt)
 
-from-numbered : (fuel : ℕ) (s : List ℕ) (at : ℕ) (j : Junction) → Numbered (readFrom fuel s at j .verdict)
+from-numbered : (fuel : ℕ) (s : List ℕ) (at : ℕ) (j : Junction) → Numbered 9 (readFrom fuel s at j .verdict)
 unfolding readFrom readField afterField
 from-numbered zero s at j = end-numbered (length s) j
 from-numbered (suc fuel) s at j =
@@ -55,15 +44,11 @@ from-numbered (suc fuel) s at j =
     (by-test (isRefused (fieldVerdict s at j)) (λ t. rw t (field-numbered s at j)) (λ t. rw t (later _))))
     (λ e. rw e (end-numbered (length s) j))
 
-reading-numbered : (s : List ℕ) → Numbered (reading s .verdict)
+pub reading-numbered : (s : List ℕ) → Numbered 9 (reading s .verdict)
 unfolding reading
 reading-numbered s =
     by-test (leb (length s) 16384) (λ e. rw e (from-numbered (length s) s 0 blank)) (λ e. rw e (omega arith))
 
-taken-number : (v : Verdict) → Numbered v → (numberOf v ≡ 0) ↔ (v ≡ Passed)
-taken-number Passed n = (λ e. refl, λ e. refl)
-taken-number (Refused number place) n = (λ e. absurd (omega arith), λ e. ap numberOf e)
-
 -- the answer's number is 0 exactly where the file is taken
 pub number-taken : (s : List ℕ) → (numberOf (reading s .verdict) ≡ 0) ↔ (reading s .verdict ≡ Passed)
-number-taken s = taken-number (reading s .verdict) (reading-numbered s)
+number-taken s = passed-number 9 (reading s .verdict) (reading-numbered s)

@@ -13,9 +13,6 @@ abbrev μ-loop : tie.MeasureT-loop
 loop-holds : tie.Need-loop-holds Inv-loop μ-loop
 loop-holds c = search needs
 
-cast-cell : tie.Need-cast-cell Inv-loop μ-loop
-cast-cell c = search needs
-
 add-cell : tie.Need-add-cell Inv-loop μ-loop
 add-cell c = search needs
 
@@ -41,7 +38,6 @@ cells-spec =
     Inv-loop
     μ-loop
     loop-holds
-    cast-cell
     add-cell
     cell-requires
     add-i

@@ -13,9 +13,6 @@ abbrev μ-loop : tie.MeasureT-loop
 loop-holds : tie.Need-loop-holds Inv-loop μ-loop
 loop-holds c = search needs
 
-cast-line : tie.Need-cast-line Inv-loop μ-loop
-cast-line c = search needs
-
 add-line : tie.Need-add-line Inv-loop μ-loop
 add-line c = search needs
 
@@ -41,7 +38,6 @@ lines-spec =
     Inv-loop
     μ-loop
     loop-holds
-    cast-line
     add-line
     line-requires
     add-i

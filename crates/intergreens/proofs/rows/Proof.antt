@@ -13,9 +13,6 @@ abbrev μ-loop : tie.MeasureT-loop
 loop-holds : tie.Need-loop-holds Inv-loop μ-loop
 loop-holds c = search needs
 
-cast-row : tie.Need-cast-row Inv-loop μ-loop
-cast-row c = search needs
-
 add-row : tie.Need-add-row Inv-loop μ-loop
 add-row c = search needs
 
@@ -41,7 +38,6 @@ rows-spec =
     Inv-loop
     μ-loop
     loop-holds
-    cast-row
     add-row
     row-requires
     add-i

@@ -1,0 +1,29 @@
+-- `judging::judge` meets its contract: the test says whether the junction's questions refuse it.
+use borrow.Author.Needs.{needs}
+use mathlib.Core.Path.{sym, _∙_, ap}
+use Rattle.fields.specs.Verdict.{isRefused, first-refused, first-passed}
+use Rattle.reading.specs.Reading.{reading}
+use Rattle.judging.specs.Judgement.{planJudgement, judgement}
+use Rattle.judging.proofs.judge.Statement.{statement}
+use Rattle.judging.proofs.judge.Tie as tie
+
+read-requires : tie.Need-read-requires
+read-requires c κs = search needs
+
+refused-requires : tie.Need-refused-requires
+refused-requires c κs = search needs
+
+returns : tie.Need-returns
+unfolding judgement
+returns c = let e = c .before .before .read .ensures in ap (λ r. r .verdict) e ∙ sym (first-refused _ _ (ap (λ r. isRefused (r .verdict)) (sym e) ∙ sym (c .before .refused .ensures) ∙ c .if1 .taken))
+
+judge-plan-requires : tie.Need-judge-plan-requires
+judge-plan-requires c κs = search needs
+
+returns-2 : tie.Need-returns-2
+unfolding judgement
+returns-2 c = let e = c .before .before .before .read .ensures in let a = c .before .before .before .before .before .before .args in c .judge-plan .ensures ∙ ap (λ r. planJudgement (r .junction) (a .plan .now)) e ∙ sym (first-passed (reading (a .junction .now) .verdict) _ (ap (λ r. isRefused (r .verdict)) (sym e) ∙ sym (c .before .before .refused .ensures) ∙ c .before .if1 .left))
+
+pub judge-spec : {M : Type 1} → statement M
+judge-spec =
+    tie.close (tie.spec read-requires refused-requires returns judge-plan-requires returns-2)

@@ -1,0 +1,40 @@
+-- `judging::judge_plan` meets its contract: the test says whether the plan's questions refuse it.
+use borrow.Author.Needs.{needs}
+use mathlib.Core.Path.{sym, _∙_, ap}
+use Rattle.fields.specs.Verdict.{isRefused, first-refused, first-passed}
+use Rattle.plans.specs.Plans.{planVerdict}
+use Rattle.judging.specs.Judgement.{planJudgement}
+use Rattle.judging.proofs.judge_plan.Statement.{statement}
+use Rattle.judging.proofs.judge_plan.Tie as tie
+use Rattle.rules.proofs.verdict.Reads as verdict-reads′
+
+verdict-requires : tie.Need-verdict-requires
+verdict-requires c κs = search needs
+
+refused-requires : tie.Need-refused-requires
+refused-requires c κs = search needs
+
+returns : tie.Need-returns
+unfolding planJudgement
+returns c = let e = c .before .before .verdict .ensures in e ∙ sym (first-refused _ _ (ap isRefused (sym e) ∙ sym (c .before .refused .ensures) ∙ c .if1 .taken))
+
+plan-of-requires : tie.Need-plan-of-requires
+plan-of-requires c κs = search needs
+
+verdict-requires-2 : tie.Need-verdict-requires-2
+verdict-requires-2 c κs = search needs
+
+returns-2 : tie.Need-returns-2
+unfolding planJudgement
+returns-2 c = let e = c .before .before .before .before .verdict .ensures in let a = c .before .before .before .before .before .before .args in simp (c .verdict2 .ensures, c .before .plan-of .ensures) (sym (first-passed (planVerdict (a .plan .now) (a .j .held .streams)) _ (ap isRefused (sym e) ∙ sym (c .before .before .before .refused .ensures) ∙ c .before .before .if1 .left)))
+
+pub judge-plan-spec : {M : Type 1} → statement M
+judge-plan-spec =
+    tie.close
+    (tie.spec
+    verdict-requires
+    refused-requires
+    returns
+    plan-of-requires
+    verdict-requires-2
+    returns-2)

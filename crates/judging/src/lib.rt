@@ -1,0 +1,30 @@
+// Judges a plan file for a junction file (document 01, "Judging a plan").
+ghost use mathlib.Core.Path.{_≡_};
+ghost use Rattle.judging.specs.Judgement.{planJudgement, judgement};
+use fields::Verdict;
+use junction::Junction;
+
+// The answer to every two sequences of bytes: `Passed` where the plan is accepted, else the first refusal with its number and place. The
+// junction's questions 1 to 9 come first, then the plan's 11 to 13, then the rules: 15 needed green and 16 capacity, place the stream,
+// and 17 conflict zones, place the zone's number. Neither file is altered.
+pub fn judge(junction: &[u8], plan: &[u8]) -> Verdict
+    ensures { λ r. ⌜ r ≡ judgement (now (junction .entry)) (now (plan .entry)) ⌝ }
+{
+    let reading = reading::read(junction);
+    let verdict = reading.verdict;
+    if fields::refused(verdict) {
+        return verdict;
+    }
+    judge_plan(reading.junction, plan)
+}
+
+// The plan's questions and the rules, for a junction that is taken.
+pub fn judge_plan(j: Junction, plan: &[u8]) -> Verdict
+    ensures { λ r. ⌜ r ≡ planJudgement j (now (plan .entry)) ⌝ }
+{
+    let verdict = plans::verdict(plan, j.held.streams);
+    if fields::refused(verdict) {
+        return verdict;
+    }
+    rules::verdict(j, plans::plan_of(plan))
+}

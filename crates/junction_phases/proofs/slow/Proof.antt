@@ -1,0 +1,15 @@
+-- `junction_phases::slow` meets its contract.
+use borrow.Author.Needs.{needs}
+use Rattle.junction_phases.specs.JunctionPhases.{slow}
+use Rattle.junction_phases.proofs.slow.Statement.{statement}
+use Rattle.junction_phases.proofs.slow.Tie as tie
+
+largest-requires : tie.Need-largest-requires
+largest-requires c κs = search needs
+
+returns : tie.Need-returns
+unfolding slow
+returns c = simp (c .largest .ensures)
+
+pub slow-spec : {M : Type 1} → statement M
+slow-spec = tie.close (tie.spec largest-requires returns)

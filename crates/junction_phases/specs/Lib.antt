@@ -1,0 +1,4 @@
+pub mod JunctionPhases
+pub mod Meaning
+pub mod Placed
+pub mod Right

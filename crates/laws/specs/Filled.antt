@@ -1,0 +1,48 @@
+-- A list whose first places are filled one after the other, and what then stands there.
+use Prim.Native.Nat.{ℕ, zero, suc, _+_, _≤_, _<_}
+use native.Mathlib.Numerals.{add-one}
+use native.Mathlib.Omega.{arith}
+use mathlib.Core.List.{List}
+use mathlib.Core.Path.{_≡_, refl}
+use lib.Dec.{eqb}
+use lib.ListN.{length, getD, set, length-set}
+use lib.Seq.{getD-set-same, getD-set-other}
+use borrow.Author.Tests.{eqb-true, eqb-false}
+use Rattle.laws.specs.Tests.{by-test}
+
+-- l with f 0, .. f (n - 1) in its first n places
+unfoldable pub filled : {A : Type 0} → (ℕ → A) → List A → ℕ → List A
+filled f l zero = l
+filled f l (suc n) = set (filled f l n) n (f n)
+
+module _ {A : Type 0} (f : ℕ → A) (l : List A) where
+  -- where a loop that counts up begins and turns
+  pub filled-none : filled f l 0 ≡ l
+  unfolding filled
+  filled-none = refl
+
+  pub filled-next : (n : ℕ) → filled f l (n + 1) ≡ set (filled f l n) n (f n)
+  unfolding filled
+  filled-next n = rw (add-one n)
+
+  pub filled-length : (n : ℕ) → length (filled f l n) ≡ length l
+  unfolding filled
+  filled-length zero = refl
+  filled-length (suc n) = rw length-set (filled-length n)
+
+  pub filled-at : (n i : ℕ) (d : A) → i < n → n ≤ length l → getD (filled f l n) i d ≡ f i
+  unfolding filled
+  filled-at zero i d low few = absurd (omega arith)
+  filled-at (suc n) i d low few =
+      let earlier = filled-at n i d in
+      by-test (eqb i n)
+      (λ e. let same : i ≡ n = eqb-true _ _ e in rw (same, getD-set-same (filled f l n) n (f n) d (omega (arith, filled-length n))))
+      (λ e. let differ = eqb-false _ _ e in rw (getD-set-other (filled f l n) n i (f n) d differ) (earlier (omega arith) (omega arith)))
+
+  -- later places stay
+  pub filled-past : (n i : ℕ) (d : A) → n ≤ i → getD (filled f l n) i d ≡ getD l i d
+  unfolding filled
+  filled-past zero i d past = refl
+  filled-past (suc n) i d past =
+      let earlier = filled-past n i d in
+      rw (getD-set-other (filled f l n) n i (f n) d (omega arith)) (earlier (omega arith))

@@ -1,0 +1,49 @@
+-- `phases::first_short` meets its contract: the invariant is that the first place from here on is the first of all.
+use Prim.Native.Nat.{_-_, _≤_}
+use mathlib.Core.Path.{_≡_, refl, sym, _∙_}
+use native.Mathlib.Omega.{arith}
+use lib.Dec.{ltb}
+use borrow.Author.Tests.{lt-ltb, le-ltb}
+use Rattle.laws.specs.Search.{firstBelow, first-found, first-next, first-out}
+use Rattle.phases.specs.Phases.{greenAt, firstShort}
+use Rattle.phases.proofs.first_short.Statement.{statement}
+use Rattle.phases.proofs.first_short.Tie as tie
+
+abbrev Inv-loop : tie.InvT-loop
+Inv-loop q s n i₀ i = (i ≤ q .count) × (firstBelow (λ k. ltb (greenAt q s k) 1) (q .count) i ≡ firstShort q s)
+
+abbrev μ-loop : tie.MeasureT-loop
+μ-loop q s n i₀ i = q .count - i
+
+loop-holds : tie.Need-loop-holds Inv-loop μ-loop
+unfolding firstShort
+loop-holds c = (omega arith, refl)
+
+green-at-requires : tie.Need-green-at-requires Inv-loop μ-loop
+green-at-requires c κs = omega arith
+
+returns : tie.Need-returns Inv-loop μ-loop
+returns c =
+    let l = c .before .before .before .loop in
+    sym (first-found _ _ (l .i) (c .before .before .loop-test .taken) (lt-ltb _ _ (rw (c .before .green-at .ensures .0) at (c .if1 .taken)))) ∙ l .inv .1
+
+add-i : tie.Need-add-i Inv-loop μ-loop
+add-i c = omega arith
+
+loop-less : tie.Need-loop-less Inv-loop μ-loop
+loop-less c = omega arith
+
+loop-again : tie.Need-loop-again Inv-loop μ-loop
+loop-again c =
+    let l = c .before .before .before .loop in (
+      omega arith,
+      sym (first-next _ _ (l .i) (c .before .before .loop-test .taken) (le-ltb _ _ (rw (c .before .green-at .ensures .0) at (c .if1 .left)))) ∙ l .inv .1,
+    )
+
+returns-2 : tie.Need-returns-2 Inv-loop μ-loop
+returns-2 c = sym (first-out _ _ (c .before .loop .i) (c .loop-test .left)) ∙ c .before .loop .inv .1
+
+pub first-short-spec : {M : Type 1} → statement M
+first-short-spec =
+    tie.close
+    (tie.spec Inv-loop μ-loop loop-holds green-at-requires returns add-i loop-less loop-again returns-2)

@@ -1,0 +1,3 @@
+pub mod Fills
+pub mod First
+pub mod Phases

@@ -1,0 +1,64 @@
+// Reads a junction file on standard input and prints its plan: the cycle, then each stream's number, start and length in seconds; or the
+// refusal.
+use fields::Verdict;
+use libc::STDIN_FILENO;
+use libc::STDOUT_FILENO;
+use plans::Plan;
+
+fn main() {
+    // One byte more than a file may have, so that a longer one is refused by the library.
+    let mut buffer = [0u8; 16385];
+    let n = io::read_full(STDIN_FILENO, &mut buffer);
+    answer(&buffer[0..n]);
+}
+
+fn answer(file: &[u8]) {
+    // Room for a plan of sixteen streams.
+    let mut out = [0u8; 133];
+    let worked = working_out::work_out(file, &mut out);
+    let verdict = worked.verdict;
+    match verdict {
+        Verdict::Passed => lines(
+            plans::plan_of(&out),
+            reading::read(file).junction.held.streams,
+        ),
+        Verdict::Refused { number, place } => refusal(number, place),
+    }
+}
+
+fn refusal(number: u8, place: usize) {
+    put(b"refused ");
+    io::print_decimal(STDOUT_FILENO, number as u64);
+    put(b" ");
+    io::print_decimal(STDOUT_FILENO, place as u64);
+    put(b"\n");
+}
+
+fn put(text: &[u8]) {
+    io::write_all(STDOUT_FILENO, text);
+}
+
+fn lines(p: Plan, streams: usize) {
+    put(b"cycle ");
+    io::print_decimal(STDOUT_FILENO, p.cycle as u64);
+    put(b"\n");
+    greens(p, streams);
+}
+
+fn greens(p: Plan, streams: usize) {
+    for i in 0..16 {
+        if i < streams {
+            line(p, i + 1);
+        }
+    }
+}
+
+fn line(p: Plan, n: usize) {
+    let green = plans::green_of(p, n);
+    io::print_decimal(STDOUT_FILENO, n as u64);
+    put(b" ");
+    io::print_decimal(STDOUT_FILENO, green.start as u64);
+    put(b" ");
+    io::print_decimal(STDOUT_FILENO, green.length as u64);
+    put(b"\n");
+}

@@ -1,0 +1,89 @@
+-- What a length gives: starts and greens within it where it is possible, and which of its rules makes it fail.
+use Prim.Native.Nat.{ℕ, _-_, _≤_}
+use native.Mathlib.Omega.{arith}
+use mathlib.Core.Bool.{true, false, not, true≢false}
+use mathlib.Core.Path.{_≡_, refl, sym, _∙_, ap}
+use Rattle.laws.specs.Ranges.{Between}
+use Rattle.laws.specs.Tests.{by-test, both-left, both-right}
+use Rattle.fields.specs.Verdict.{isRefused, not-refused, each-passed}
+use Rattle.fields.specs.declared.Verdict.the-variants.{Passed}
+use Rattle.junction.specs.declared.Junction.{Junction}
+use Rattle.questions.specs.Questions.{streamNumbered}
+use Rattle.reading.specs.Taken.{Taken}
+use Rattle.phases.specs.Fills.{start-within}
+use Rattle.phases.specs.Phases.{sharing, greenAt, startAt, possible}
+use Rattle.phases.specs.declared.Phases.{Phases}
+use Rattle.phases.specs.declared.Sharing.{Sharing}
+use Rattle.junction_phases.specs.JunctionPhases.{phasesAt}
+use Rattle.junction_phases.specs.Meaning.{count-phases}
+use Rattle.junction_phases.specs.Placed.{few-phases}
+use Rattle.junction_phases.specs.Right.{phases-right}
+use Rattle.rules.specs.Rules.{needMet, capacityMet, zoneMet, rulesVerdict}
+use Rattle.planning.specs.Planning.{planAt, works}
+
+-- a phase whose start and green are at most 180
+pub record Small (q : Phases) (s : Sharing) (f : ℕ) : Type 0 where
+  pub number : Between 1 6 f
+  pub start : startAt q s (f - 1) ≤ 180
+  pub length : greenAt q s (f - 1) ≤ 180
+
+module _ (j : Junction) (taken : Taken j) (t : ℕ) where
+  -- each stream's phase lies within a length that is possible
+  pub small : possible (phasesAt j t) t ≡ true → t ≤ 180 → (n : ℕ) → Between 1 (j .held .streams) n
+      → Small (phasesAt j t) (sharing (phasesAt j t) t) (streamNumbered j n .phase)
+  unfolding phasesAt
+  small p short n w =
+      let f = count-phases j taken n w in
+      let inside = start-within (phasesAt j t) (phases-right j taken t) t p (streamNumbered j n .phase - 1) (omega arith) in
+      record { number = omega (arith, few-phases j); start = omega arith; length = omega arith }
+
+module _ (j : Junction) (t : ℕ) where
+  -- a length fails where it is not possible, or where a stream or a zone breaks a rule ..
+  pub fails-possible : possible (phasesAt j t) t ≡ false → works j t ≡ false
+  unfolding works
+  fails-possible e = rw e
+
+  refused-fails : (rulesVerdict j (planAt j t) ≡ Passed → ⊥) → works j t ≡ false
+  unfolding works
+  refused-fails h =
+      by-test (isRefused (rulesVerdict j (planAt j t)))
+      (λ e. by-test (possible (phasesAt j t) t) (λ f. rw (e, f)) (λ f. rw f))
+      (λ e. absurd (h (not-refused _ e)))
+
+  pub fails-need : (n : ℕ) → Between 1 (j .held .streams) n → needMet j (planAt j t) n ≡ false → works j t ≡ false
+  unfolding rulesVerdict
+  fails-need n w e = refused-fails (λ v. true≢false (sym (each-passed (needMet j (planAt j t)) 15 (j .held .streams) _ .0 v .0 n w) ∙ e))
+
+  pub fails-capacity : (n : ℕ) → Between 1 (j .held .streams) n → capacityMet j (planAt j t) n ≡ false → works j t ≡ false
+  unfolding rulesVerdict
+  fails-capacity n w e =
+      refused-fails (λ v.
+      let later = each-passed (needMet j (planAt j t)) 15 (j .held .streams) _ .0 v .1 in
+      true≢false (sym (each-passed (capacityMet j (planAt j t)) 16 (j .held .streams) _ .0 later .0 n w) ∙ e))
+
+  pub fails-zone : (n : ℕ) → Between 1 (j .held .zones) n → zoneMet j (planAt j t) n ≡ false → works j t ≡ false
+  unfolding rulesVerdict
+  fails-zone n w e =
+      refused-fails (λ v.
+      let later = each-passed (needMet j (planAt j t)) 15 (j .held .streams) _ .0 v .1 in
+      let last = each-passed (capacityMet j (planAt j t)) 16 (j .held .streams) _ .0 later .1 in
+      true≢false (sym (each-passed (zoneMet j (planAt j t)) 17 (j .held .zones) _ .0 last .0 n w) ∙ e))
+
+  -- .. and works where it is possible and none does
+  pub works-where : possible (phasesAt j t) t ≡ true
+      → ((n : ℕ) → Between 1 (j .held .streams) n → needMet j (planAt j t) n ≡ true)
+      → ((n : ℕ) → Between 1 (j .held .streams) n → capacityMet j (planAt j t) n ≡ true)
+      → ((n : ℕ) → Between 1 (j .held .zones) n → zoneMet j (planAt j t) n ≡ true)
+      → works j t ≡ true
+  unfolding works rulesVerdict
+  works-where p needs capacities zones =
+      let last = each-passed (zoneMet j (planAt j t)) 17 (j .held .zones) Passed .1 (zones, refl) in
+      let later = each-passed (capacityMet j (planAt j t)) 16 (j .held .streams) _ .1 (capacities, last) in
+      rw (p, each-passed (needMet j (planAt j t)) 15 (j .held .streams) _ .1 (needs, later))
+
+  -- what it means that a length works
+  pub works-exactly : (works j t ≡ true) → (possible (phasesAt j t) t ≡ true) × (rulesVerdict j (planAt j t) ≡ Passed)
+  unfolding works
+  works-exactly e =
+      let p = possible (phasesAt j t) t in
+      (both-left p _ e, not-refused _ (by-test (isRefused (rulesVerdict j (planAt j t))) (λ r. absurd (true≢false (sym (both-right p _ e) ∙ ap not r))) (λ r. r)))

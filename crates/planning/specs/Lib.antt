@@ -1,0 +1,4 @@
+pub mod Lengths
+pub mod Planned
+pub mod Planning
+pub mod Search

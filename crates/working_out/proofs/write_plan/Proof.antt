@@ -1,0 +1,24 @@
+-- `working_out::write_plan` meets its contract: a length that works is possible.
+use borrow.Author.Needs.{needs}
+use Rattle.planning.specs.Lengths.{works-exactly}
+use Rattle.working_out.proofs.write_plan.Statement.{statement}
+use Rattle.working_out.proofs.write_plan.Tie as tie
+
+phases-at-requires : tie.Need-phases-at-requires
+phases-at-requires c κs = search needs
+
+plan-at-requires : tie.Need-plan-at-requires
+plan-at-requires c κs = let pre = c .before .before .pre in let e = c .phases-at .ensures in (pre .0, (e, (rw e (works-exactly _ _ (pre .1 .0) .0), pre .1 .1)))
+
+write-requires : tie.Need-write-requires
+write-requires c κs = search needs
+
+same-length : tie.Need-same-length
+same-length c = search needs
+
+returns : tie.Need-returns
+returns c = simp (c .before .before .write .ensures, c .before .before .before .before .plan-at .ensures)
+
+pub write-plan-spec : {M : Type 1} → statement M
+write-plan-spec =
+    tie.close (tie.spec phases-at-requires plan-at-requires write-requires same-length returns)
