@@ -43,8 +43,12 @@ same "no such junction" '' "$work/none: No such file or directory\n" $judge "$wo
 same "no such plan" '' "$work/none: No such file or directory\n" $judge $junction "$work/none"
 same "a folder for a plan" '' "$work: Is a directory\n" $judge $junction "$work"
 same "one name" '' 'usage: judge JUNCTION-FILE PLAN-FILE\n' $judge $junction
+same "an empty name" '' 'judge: a file name is empty or too long\n' $judge '' $plan
 same "three names" '' 'usage: judge JUNCTION-FILE PLAN-FILE\n' $judge $junction $plan $plan
 
+same "a plan of 20,000 bytes" 'refused 1 0\n' '' sh -c 'head -c 20000 /dev/zero | target/bin/plan'
+same "a plan of nothing" 'refused 8 0\n' '' sh -c 'target/bin/plan < /dev/null'
+same "a plan of a folder" '' 'plan: standard input: Is a directory\n' sh -c 'target/bin/plan < examples'
 for f in examples/*.junction; do
     target/bin/plan < "$f" > "$work/out"
     cmp -s "$work/out" "${f%.junction}.txt" || { echo "programs: plan of $f: wrote:"; cat "$work/out"; failed=1; }

@@ -112,8 +112,10 @@ fn hex(digit: u8) -> u8
     }
 }
 
-// The number that the digits of a text make, 0 where there are none, and never above 9,999,999.
-pub fn decimal(text: &[u8]) -> usize {
+// The number that the digits of a text make, 0 where there are none; of one too large, the first digits alone.
+pub fn decimal(text: &[u8]) -> usize
+    ensures { λ r. ⌜ r ≤ 10000005 ⌝ }
+{
     let mut n: usize = 0;
     for i in 0..text.len() {
         n = with_digit(n, text[i]);
@@ -121,7 +123,10 @@ pub fn decimal(text: &[u8]) -> usize {
     n
 }
 
-fn with_digit(n: usize, digit: u8) -> usize {
+fn with_digit(n: usize, digit: u8) -> usize
+    requires { ⌜ n ≤ 10000005 ⌝ }
+    ensures { λ r. ⌜ r ≤ 10000005 ⌝ }
+{
     if (digit < b'0') | (digit > b'9') {
         return n;
     }

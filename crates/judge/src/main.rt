@@ -46,7 +46,7 @@ fn read_argument(i: usize, file: &mut [u8]) -> Got
     let mut name = io::buffer();
     let n = os::arg(i, &mut name);
     if n == 0 {
-        os::fail(b"judge: argument");
+        io::write_all(STDERR_FILENO, b"judge: a file name is empty or too long\n");
         return Got {
             read: false,
             size: 0,

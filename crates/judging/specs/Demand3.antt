@@ -1,9 +1,9 @@
--- The customer's third demand but its last sentence, which speaks of plans that are worked out (working_out/specs/Demand3.antt has the
--- whole): for any junction file that is taken and any
--- plan file that is well-formed for it, whoever made it, the judge accepts the plan exactly when it is acceptable, as Meaning.antt says in the
--- customer's words: each stream has its needed green, each car flow its capacity, and for every number of cycles, every zone and every pair of
--- greens, one of each of its streams, one ends no later than the other begins and the last participant of the earlier leaves no later than
--- the first of the later reaches.
+-- The customer's third demand but its last sentence, which speaks of plans that are worked out (working_out/specs/Demand3.antt has the whole).
+--
+-- For any junction file that is taken and any plan file that is well-formed for it, whoever made it, the judge accepts the plan exactly when
+-- it is acceptable, as Meaning.antt says in the customer's words: each stream has its needed green, each car flow its capacity, and for every
+-- number of cycles, every zone and every pair of greens, one of each of its streams, one ends no later than the other begins and the last
+-- participant of the earlier leaves no later than the first of the later reaches.
 --
 -- `judgement` is what `judging::judge` is proved to answer. A junction file is taken where `reading` refuses nothing (reading/specs/Taken.antt
 -- says what it then is), a plan file well-formed where `planVerdict` refuses nothing (plans/specs/WellFormed.antt), and a plan accepted where

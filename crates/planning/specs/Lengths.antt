@@ -82,8 +82,8 @@ module _ (j : Junction) (t : ℕ) where
       rw (p, each-passed (needMet j (planAt j t)) 15 (j .held .streams) _ .1 (needs, later))
 
   -- what it means that a length works
-  pub works-exactly : (works j t ≡ true) → (possible (phasesAt j t) t ≡ true) × (rulesVerdict j (planAt j t) ≡ Passed)
+  pub works-only : (works j t ≡ true) → (possible (phasesAt j t) t ≡ true) × (rulesVerdict j (planAt j t) ≡ Passed)
   unfolding works
-  works-exactly e =
+  works-only e =
       let p = possible (phasesAt j t) t in
       (both-left p _ e, not-refused _ (by-test (isRefused (rulesVerdict j (planAt j t))) (λ r. absurd (true≢false (sym (both-right p _ e) ∙ ap not r))) (λ r. r)))

@@ -13,7 +13,7 @@ use phases::Sharing;
 use plans::Green;
 use plans::Plan;
 
-// The cycle, 181 where no length up to 180 works, and how many lengths were tried.
+// The cycle, 181 where no length from the first to 180 works, and how many lengths were tried.
 pub struct Found {
     pub cycle: u16,
     pub tried: u16,

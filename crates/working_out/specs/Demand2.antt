@@ -53,8 +53,8 @@ module _ (j : Junction) where
   )
 
   -- how many of n lengths from T0 on are not below their lost time
-  unfoldable pub possibleLengths : ℕ → ℕ
-  possibleLengths n = sumOf (λ i. cond (leb (lostTime (phasesAt j (firstTried j + i))) (firstTried j + i)) 1 0) n
+  unfoldable pub lengthsFromLost : ℕ → ℕ
+  lengthsFromLost n = sumOf (λ i. cond (leb (lostTime (phasesAt j (firstTried j + i))) (firstTried j + i)) 1 0) n
 
   at-most-all : (f : ℕ → Bool) (n : ℕ) → sumOf (λ i. cond (f i) 1 0) n ≤ n
   unfolding sumOf
@@ -69,10 +69,10 @@ module _ (j : Junction) where
 
   -- the tried count of a cycle that is found: at most C - T0 + 1, and at least the number of lengths from T0 to C that are not below their L
   pub tried-bounds : cycle j < 181
-      → (found j (firstTried j) .tried ≤ cycle j + 1 - firstTried j) × (possibleLengths (cycle j + 1 - firstTried j) ≤ found j (firstTried j) .tried)
+      → (found j (firstTried j) .tried ≤ cycle j + 1 - firstTried j) × (lengthsFromLost (cycle j + 1 - firstTried j) ≤ found j (firstTried j) .tried)
   tried-bounds low =
       let exact : found j (firstTried j) .tried ≡ cycle j + 1 - firstTried j = tried-exact low in
-      rw exact (omega arith, unfold possibleLengths in at-most-all (λ i. leb (lostTime (phasesAt j (firstTried j + i))) (firstTried j + i)) _)
+      rw exact (omega arith, unfold lengthsFromLost in at-most-all (λ i. leb (lostTime (phasesAt j (firstTried j + i))) (firstTried j + i)) _)
 
 -- a plan that is worked out does not depend on file days
 pub file-days-unplanned : (s t : List ℕ) → OnlyFileDays s t → ((size : ℕ) → worked s size ≡ worked t size) × ((lent : List ℕ) → buffer s lent ≡ buffer t lent)

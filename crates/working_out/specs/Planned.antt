@@ -1,8 +1,9 @@
 -- Every plan that is worked out is well-formed and accepted: the bytes written, judged with the junction file that they were worked out from.
 use Prim.Native.Nat.{ℕ, _≤_}
 use native.Mathlib.Omega.{arith}
-use mathlib.Core.Bool.{true, false, true≢false}
+use mathlib.Core.Bool.{true, not, true≢false}
 use mathlib.Core.List.{List}
+use mathlib.Core.Logic.{_↔_}
 use mathlib.Core.Path.{_≡_, sym, _∙_, ap}
 use lib.ListN.{length, take}
 use Rattle.laws.specs.Ranges.{Between}
@@ -14,23 +15,40 @@ use Rattle.reading.specs.Reading.{reading}
 use Rattle.reading.specs.Taken.{Taken, taken}
 use Rattle.plans.specs.Inverse.{planFile, written-file, written-passes, written-cycle, written-green}
 use Rattle.plans.specs.Plans.{planVerdict}
-use Rattle.plans.specs.WellFormed.{PlanRight}
 use Rattle.plans.specs.Writing.{planSize, has-room, written}
+use Rattle.phases.specs.Phases.{possible}
+use Rattle.junction_phases.specs.JunctionPhases.{phasesAt}
+use Rattle.rules.specs.Rules.{rulesVerdict}
 use Rattle.rules.specs.Same.{rules-same}
-use Rattle.planning.specs.Lengths.{works-exactly}
+use Rattle.planning.specs.Lengths.{works-only}
 use Rattle.planning.specs.Planned.{plan-in-range}
-use Rattle.planning.specs.Planning.{planAt, cycle}
+use Rattle.planning.specs.Planning.{planAt, works, cycle}
 use Rattle.judging.specs.Demand3.{only-acceptable}
 use Rattle.judging.specs.Judgement.{planJudgement, judgement}
 use Rattle.working_out.specs.Cases.{first-tried-range, cycle-works, cycle-found, room-found, buffer-passed, worked-verdict}
 use Rattle.working_out.specs.WorkingOut.{junctionVerdict, junctionWorked, junctionBuffer, worked, buffer}
 
+-- a length whose greens are 1 or more works exactly where the judge refuses nothing of the file of its plan, in any buffer with room
+module _ (j : Junction) (t : Taken j) (c : ℕ) (range : Between 1 180 c) (p : possible (phasesAt j c) c ≡ true) (lent : List ℕ)
+    (room : planSize (j .held .streams) ≤ length lent) where
+  same-rules : planJudgement j (planFile (planAt j c) (j .held .streams) lent) ≡ rulesVerdict j (planAt j c)
+  unfolding planJudgement
+  same-rules =
+      let few = t .fields .fewStreams in
+      let good = plan-in-range j t c p range in
+      rw (written-passes (planAt j c) (j .held .streams) lent few good room)
+      (rules-same j t _ (planAt j c) (written-cycle (planAt j c) (j .held .streams) lent few good room) (written-green (planAt j c) (j .held .streams) lent few good room))
+
+  pub works-accepted : (works j c ≡ true) ↔ (planJudgement j (planFile (planAt j c) (j .held .streams) lent) ≡ Passed)
+  unfolding works
+  works-accepted = rw (same-rules, p) (
+    λ e. not-refused _ (by-test (isRefused (rulesVerdict j (planAt j c))) (λ r. absurd (true≢false (sym e ∙ ap not r))) (λ r. r)),
+    λ e. rw e,
+  )
+
 module _ (j : Junction) (t : Taken j) (lent : List ℕ) (e : junctionVerdict j (length lent) ≡ Passed) where
   found-low : Between 1 180 (cycle j)
   found-low = omega (arith, cycle-found j (length lent) e, cycle-works j (cycle-found j (length lent) e) .0, first-tried-range j)
-
-  good : PlanRight (planAt j (cycle j)) (j .held .streams)
-  good = plan-in-range j t (cycle j) (works-exactly j (cycle j) (cycle-works j (cycle-found j (length lent) e) .1) .0) found-low
 
   room : planSize (j .held .streams) ≤ length lent
   room = has-room (j .held .streams) (length lent) (room-found j (length lent) e) .1
@@ -41,15 +59,11 @@ module _ (j : Junction) (t : Taken j) (lent : List ℕ) (e : junctionVerdict j (
       ap (take (planSize (j .held .streams))) (sym (buffer-passed j lent (ap isRefused e)))
       ∙ written-file (planAt j (cycle j)) (j .held .streams) lent (room-found j (length lent) e)
 
-  -- is well-formed, and meets the rules, since these depend on the cycle and the greens that were written
+  -- is accepted, since its length works
   pub plan-accepted : planJudgement j (take (planSize (j .held .streams)) (junctionBuffer j lent)) ≡ Passed
-  unfolding planJudgement
   plan-accepted =
-      let p = planAt j (cycle j) in
-      let few = t .fields .fewStreams in
-      let met = works-exactly j (cycle j) (cycle-works j (cycle-found j (length lent) e) .1) .1 in
-      rw (file-written, written-passes p (j .held .streams) lent few good room)
-      (rules-same j t _ p (written-cycle p (j .held .streams) lent few good room) (written-green p (j .held .streams) lent few good room) ∙ met)
+      let works = cycle-works j (cycle-found j (length lent) e) .1 in
+      rw file-written (works-accepted j t (cycle j) found-low (works-only j (cycle j) works .0) lent room .0 works)
 
 -- for every junction file and every lent buffer: where nothing is refused, the plan file in the buffer is accepted
 pub planned-accepted : (junction lent : List ℕ) → worked junction (length lent) .verdict ≡ Passed

@@ -1,5 +1,5 @@
 // Works out a plan for a junction file, and writes it (document 01, "Working out a plan").
-ghost use mathlib.Core.Bool.{Bool, true};
+ghost use mathlib.Core.Bool.{true};
 ghost use mathlib.Core.Path.{_≡_};
 ghost use Prim.Native.Nat.{_≤_};
 ghost use lib.ListN.{length};
@@ -20,7 +20,7 @@ pub struct Worked {
 
 // The answer to every junction file and every lent buffer. Where nothing is refused the plan file stands in the buffer from its first byte,
 // 5 bytes and 8 for each stream, and later bytes are untouched. A refusal alters no byte: the junction's questions 1 to 9 come first; then
-// 21, the flow ratios sum to 10,000 or more; 22, no length up to 180 s works; 23, the buffer is too short; each of these at place 0.
+// 21, the flow ratios sum to 10,000 or more; 22, no length from T0 to 180 s works; 23, the buffer is too short; each of these at place 0.
 pub fn work_out(junction: &[u8], out: &mut [u8]) -> Worked
     ensures result { λ r. ⌜ r ≡ worked (now (junction .entry)) (length (now (out .entry))) ⌝ }
     ensures lent { λ r. ⌜ now (out .exit) ≡ bufferAfter (now (junction .entry)) (now (out .entry)) ⌝ }

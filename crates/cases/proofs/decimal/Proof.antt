@@ -1,4 +1,4 @@
--- `cases::decimal` is safe and ends: the index stays below the number of bytes.
+-- `cases::decimal` answers a number of at most eight digits: the index stays below the number of bytes.
 use Prim.Native.Nat.{_≤_, _-_}
 use lib.ListN.{length}
 use borrow.Author.Needs.{needs}
@@ -6,7 +6,7 @@ use Rattle.cases.proofs.decimal.Statement.{statement}
 use Rattle.cases.proofs.decimal.Tie as tie
 
 abbrev Inv-loop : tie.InvT-loop
-Inv-loop text n₀ i₀ i-end n i = i-end ≤ length text
+Inv-loop text n₀ i₀ i-end n i = (i-end ≤ length text) × (n ≤ 10000005)
 
 abbrev μ-loop : tie.MeasureT-loop
 μ-loop text n₀ i₀ i-end n i = i-end - i

@@ -1,6 +1,6 @@
 -- `working_out::write_plan` meets its contract: a length that works is possible.
 use borrow.Author.Needs.{needs}
-use Rattle.planning.specs.Lengths.{works-exactly}
+use Rattle.planning.specs.Lengths.{works-only}
 use Rattle.working_out.proofs.write_plan.Statement.{statement}
 use Rattle.working_out.proofs.write_plan.Tie as tie
 
@@ -8,7 +8,7 @@ phases-at-requires : tie.Need-phases-at-requires
 phases-at-requires c κs = search needs
 
 plan-at-requires : tie.Need-plan-at-requires
-plan-at-requires c κs = let pre = c .before .before .pre in let e = c .phases-at .ensures in (pre .0, (e, (rw e (works-exactly _ _ (pre .1 .0) .0), pre .1 .1)))
+plan-at-requires c κs = let pre = c .before .before .pre in let e = c .phases-at .ensures in (pre .0, (e, (rw e (works-only _ _ (pre .1 .0) .0), pre .1 .1)))
 
 write-requires : tie.Need-write-requires
 write-requires c κs = search needs
