@@ -2,7 +2,7 @@
 ghost use mathlib.Core.Path.{_≡_};
 ghost use Prim.Native.Nat.{_≤_, _<_};
 ghost use lib.ListN.{length};
-ghost use Rattle.fields.specs.Verdict.{ask as askOf, isRefused};
+ghost use Rattle.fields.specs.Verdict.{ask as askOf, isRefused, firstRefusal};
 ghost use Rattle.fields.specs.Bytes.{byteAt, numberAt, byteIn, numberIn, fieldEnd, fits as fitsAt};
 
 // What the questions in order give: no refusal, or the first one with its number and place.
@@ -21,6 +21,16 @@ pub fn refused(v: Verdict) -> bool
             number: _,
             place: _,
         } => true,
+    }
+}
+
+// The first refusal of two: the later verdict counts only where the earlier one refuses nothing.
+pub fn first_refusal(v: Verdict, later: Verdict) -> Verdict
+    ensures { λ r. ⌜ r ≡ firstRefusal v later ⌝ }
+{
+    match v {
+        Verdict::Passed => later,
+        Verdict::Refused { number, place } => Verdict::Refused { number, place },
     }
 }
 

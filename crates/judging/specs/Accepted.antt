@@ -29,7 +29,7 @@ use Rattle.judging.specs.Meaning.{begins, ends, LeavesInTime, Before, Ap
 
 -- the first two things are the first two rules
 need-exact : (j : Junction) (p : Plan) (n : ℕ) → (needMet j p n ≡ true) ↔ (streamNeed j n (p .cycle) ≤ greenOf p n .length)
-unfolding needMet
+unfolding needMet streamNeed
 need-exact j p n = (leb-true _ _, le-leb _ _)
 
 capacity-exact : (j : Junction) (p : Plan) (n : ℕ)

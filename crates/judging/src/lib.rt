@@ -1,5 +1,6 @@
 // Judges a plan file for a junction file (document 01, "Judging a plan").
 ghost use mathlib.Core.Path.{_≡_};
+ghost use Rattle.reading.specs.Taken.{Taken};
 ghost use Rattle.judging.specs.Judgement.{planJudgement, judgement};
 use fields::Verdict;
 use junction::Junction;
@@ -18,8 +19,9 @@ pub fn judge(junction: &[u8], plan: &[u8]) -> Verdict
     judge_plan(reading.junction, plan)
 }
 
-// The plan's questions and the rules, for a junction that is taken.
-pub fn judge_plan(j: Junction, plan: &[u8]) -> Verdict
+// The plan's questions and the rules.
+fn judge_plan(j: Junction, plan: &[u8]) -> Verdict
+    requires { ⌜ Taken j ⌝ }
     ensures { λ r. ⌜ r ≡ planJudgement j (now (plan .entry)) ⌝ }
 {
     let verdict = plans::verdict(plan, j.held.streams);

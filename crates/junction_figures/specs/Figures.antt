@@ -6,6 +6,7 @@ use lib.Dec.{ltb, eqb}
 use Rattle.laws.specs.Largest.{largestOf, largest-at-most}
 use Rattle.laws.specs.Search.{firstBelow}
 use Rattle.streams.specs.declared.Kind.{Kind}
+use Rattle.streams.specs.declared.Stream.{Stream}
 use Rattle.streams.specs.declared.Kind.the-variants.{Car, Tram, Pedestrian, Cyclist}
 use Rattle.times.specs.Entry.{entry}
 use Rattle.flows.specs.Needs.{needAt}
@@ -22,12 +23,15 @@ forward n m z = eqb (z .a .stream) n && eqb (z .b .stream) m
 unfoldable pub backward : ℕ → ℕ → Zone → Bool
 backward n m z = eqb (z .b .stream) n && eqb (z .a .stream) m
 
--- the entry from stream n to stream m at one zone, (19): a to b with clearing a and reaching b, b to a with clearing b and reaching a; 0 at
--- a zone of other streams
+-- the entry at one zone, (19), from one stream, with number n, to another, with number m: a to b with clearing a and reaching b, b to a
+-- with clearing b and reaching a; 0 at a zone of other streams
+abbrev pub entryAt : ℕ → ℕ → Stream → Stream → Zone → ℕ
+entryAt n m from to z =
+    cond (forward n m z) (entry from to (z .a .clearing) (z .b .reaching))
+    (cond (backward n m z) (entry from to (z .b .clearing) (z .a .reaching)) 0)
+
 unfoldable pub zoneEntry : Junction → ℕ → ℕ → Zone → ℕ
-zoneEntry j n m z =
-    cond (forward n m z) (entry (streamNumbered j n) (streamNumbered j m) (z .a .clearing) (z .b .reaching))
-    (cond (backward n m z) (entry (streamNumbered j n) (streamNumbered j m) (z .b .clearing) (z .a .reaching)) 0)
+zoneEntry j n m z = entryAt n m (streamNumbered j n) (streamNumbered j m) z
 
 -- the entry of the pair: the largest over its zones, 0 where it has none
 unfoldable pub pairEntry : Junction → ℕ → ℕ → ℕ

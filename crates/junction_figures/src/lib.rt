@@ -1,7 +1,7 @@
 // The annex's figures of a junction that was read. Streams are named by their numbers, from 1.
 ghost use mathlib.Core.Path.{_≡_};
 ghost use Prim.Native.Nat.{max};
-ghost use Rattle.junction_figures.specs.Figures.{forward as forwardAt, backward as backwardAt, zoneEntry, pairEntry, sharesAt, firstShared, sharesZone, streamNeed, streamFlow, streamDay, kindSaturation, streamSaturation, streamRatio};
+ghost use Rattle.junction_figures.specs.Figures.{forward as forwardAt, backward as backwardAt, entryAt, pairEntry, sharesAt, firstShared, sharesZone, streamNeed, streamFlow, streamDay, kindSaturation, streamSaturation, streamRatio};
 use junction::Junction;
 use junction::Zone;
 use streams::Kind;
@@ -12,28 +12,33 @@ pub fn pair_entry(j: Junction, n: usize, m: usize) -> u16
     ensures { λ r. ⌜ r ≡ pairEntry j n m ⌝ }
 {
     let zones = j.held.zones;
+    let from = questions::stream_numbered(j, n);
+    let to = questions::stream_numbered(j, m);
     let mut most: u16 = 0;
     let mut i: usize = 0;
     while i < zones {
-        let here = zone_entry(j, n, m, questions::zone_at(j, i));
-        most = larger(most, here);
+        let z = if i < 64 {
+            j.zones[i]
+        } else {
+            questions::no_zone()
+        };
+        most = larger(most, zone_entry(n, m, from, to, z));
         i += 1;
     }
     most
 }
 
-// At the width of an entry.
-fn larger(a: u16, b: u16) -> u16
+// The larger of two entries.
+pub fn larger(a: u16, b: u16) -> u16
     ensures { λ r. ⌜ r ≡ max a b ⌝ }
 {
     if a <= b { b } else { a }
 }
 
-fn zone_entry(j: Junction, n: usize, m: usize, z: Zone) -> u16
-    ensures { λ r. ⌜ r ≡ zoneEntry j n m z ⌝ }
+// The entry at one zone, with n and m the numbers of the two streams; 0 at a zone of other streams.
+pub fn zone_entry(n: usize, m: usize, from: Stream, to: Stream, z: Zone) -> u16
+    ensures { λ r. ⌜ r ≡ entryAt n m from to z ⌝ }
 {
-    let from = questions::stream_numbered(j, n);
-    let to = questions::stream_numbered(j, m);
     if forward(n, m, z) {
         return times::entry(from, to, z.a.clearing, z.b.reaching);
     }
@@ -111,7 +116,8 @@ pub fn stream_saturation(j: Junction, n: usize) -> u32
     saturation(questions::stream_numbered(j, n))
 }
 
-fn saturation(s: Stream) -> u32
+// That of a stream.
+pub fn saturation(s: Stream) -> u32
     ensures { λ r. ⌜ r ≡ kindSaturation (s .kind) ⌝ }
 {
     let kind = s.kind;

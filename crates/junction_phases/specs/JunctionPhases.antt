@@ -83,6 +83,6 @@ phaseAt j t i =
 unfoldable pub phasesAt : Junction → ℕ → Phases
 phasesAt j t = record { count = phaseCount j; of = filled (phaseAt j t) (replicate 6 noPhase) (phaseCount j) }
 
--- a phase with its need at another cycle
-unfoldable pub withNeed : Junction → Phase → ℕ → ℕ → Phase
-withNeed j p t i = record { cars = p .cars; ratio = p .ratio; intergreen = p .intergreen; need = largest j (Need (i + 1) t) }
+-- a phase with another need
+abbrev pub withNeed : Phase → ℕ → Phase
+withNeed p need = record { cars = p .cars; ratio = p .ratio; intergreen = p .intergreen; need = need }

@@ -2,3 +2,4 @@ pub mod JunctionPhases
 pub mod Meaning
 pub mod Placed
 pub mod Right
+pub mod Tabled

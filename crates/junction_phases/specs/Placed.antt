@@ -1,5 +1,5 @@
 -- What stands at each of the six places of a junction's phases.
-use Prim.Native.Nat.{ℕ, _≤_, _<_}
+use Prim.Native.Nat.{ℕ, _+_, _≤_, _<_}
 use native.Mathlib.Nat.{min-le-right}
 use native.Mathlib.Omega.{arith}
 use mathlib.Core.Path.{_≡_}
@@ -10,7 +10,8 @@ use Rattle.laws.specs.Filled.{filled-at, filled-past}
 use Rattle.laws.specs.Tests.{by-test}
 use Rattle.junction.specs.declared.Junction.{Junction}
 use Rattle.phases.specs.Phases.{noPhase, phase}
-use Rattle.junction_phases.specs.JunctionPhases.{phaseCount, phaseAt, phasesAt, withNeed}
+use Rattle.junction_phases.specs.JunctionPhases.{largest, phaseCount, phaseAt, phasesAt, withNeed}
+use Rattle.junction_phases.specs.declared.Sought.the-variants.{Need}
 
 module _ (j : Junction) where
   pub few-phases : phaseCount j ≤ 6
@@ -30,6 +31,6 @@ module _ (j : Junction) where
       (λ e. rw e)
 
   -- a phase's need alone depends on the cycle
-  pub need-moved : (t i : ℕ) → i < phaseCount j → withNeed j (phase (phasesAt j 0) i) t i ≡ phaseAt j t i
-  unfolding withNeed phaseAt
+  pub need-moved : (t i : ℕ) → i < phaseCount j → withNeed (phase (phasesAt j 0) i) (largest j (Need (i + 1) t)) ≡ phaseAt j t i
+  unfolding phaseAt
   need-moved t i low = rw (phase-placed 0 i low)

@@ -1,16 +1,24 @@
 // The phases of a junction that was read: their flow ratios, intergreens toward the next phase and needed greens (document 01, "Working out
 // a plan"). Phases and streams are named by their numbers, from 1.
-ghost use mathlib.Core.Bool.{cond};
+ghost use mathlib.Core.Bool.{_&&_, cond};
 ghost use mathlib.Core.Path.{_≡_};
 ghost use Prim.Native.Nat.{_+_, _≤_, max, min};
-ghost use lib.Dec.{ltb};
-ghost use Rattle.junction_phases.specs.declared.Sought.the-variants.{Number, Slow, Cars, Ratio, Need};
-ghost use Rattle.junction_phases.specs.JunctionPhases.{isSlow, isIn, carIn, figure as figureOf, largest as largestIn, phaseCount, slow as slowIn, nextPhase, entryBetween, zoneFigure, phaseEntry, intergreen as intergreenOf, phaseAt, phasesAt, withNeed};
+ghost use lib.Dec.{ltb, eqb};
+ghost use Rattle.flows.specs.Needs.{needAt};
+ghost use Rattle.questions.specs.Questions.{isCar};
+ghost use Rattle.reading.specs.Taken.{Taken};
+ghost use Rattle.tables.specs.Tables.{loadsOf, conflictsOf};
+ghost use Rattle.junction_phases.specs.JunctionPhases.{isSlow, phaseCount, slow as slowIn, phaseEntry, intergreen as intergreenOf, phaseAt, phasesAt, withNeed};
+ghost use Rattle.junction_phases.specs.Tabled.{figureBy, largestBy, zoneFigureBy};
 use junction::Junction;
 use phases::Phase;
 use phases::Phases;
 use streams::Kind;
 use streams::Stream;
+use tables::Conflict;
+use tables::Conflicts;
+use tables::Load;
+use tables::Loads;
 
 // A figure of each stream whose largest is sought: the number of its phase; 1 for a pedestrian or a tram; of the cars of a phase, 1 for
 // each, or their flow ratio; of the streams of a phase, the needed green at a cycle.
@@ -41,71 +49,42 @@ fn is_slow(s: Stream) -> bool
     }
 }
 
-fn is_in(j: Junction, f: u8, n: usize) -> bool
-    ensures { λ r. ⌜ r ≡ isIn j f n ⌝ }
+fn car_in(s: Stream, f: u8) -> bool
+    ensures { λ r. ⌜ r ≡ (eqb (s .phase) f && isCar (s .kind)) ⌝ }
 {
-    let s = questions::stream_numbered(j, n);
-    s.phase == f
+    (s.phase == f) & questions::is_car(s)
 }
 
-fn car_in(j: Junction, f: u8, n: usize) -> bool
-    ensures { λ r. ⌜ r ≡ carIn j f n ⌝ }
+fn need_in(s: Stream, f: u8, cycle: u16) -> u32
+    ensures { λ r. ⌜ r ≡ cond (eqb (s .phase) f) (needAt cycle s) 0 ⌝ }
 {
-    is_in(j, f, n) & questions::is_car(questions::stream_numbered(j, n))
+    if s.phase == f {
+        return flows::need(s, cycle);
+    }
+    0
 }
 
-fn phase_figure(j: Junction, n: usize) -> u32
-    ensures { λ r. ⌜ r ≡ figureOf j Number n ⌝ }
-{
-    let s = questions::stream_numbered(j, n);
-    s.phase as u32
-}
-
-fn slow_figure(j: Junction, n: usize) -> u32
-    ensures { λ r. ⌜ r ≡ figureOf j Slow n ⌝ }
-{
-    only(is_slow(questions::stream_numbered(j, n)), 1)
-}
-
-fn cars_figure(j: Junction, f: u8, n: usize) -> u32
-    ensures { λ r. ⌜ r ≡ figureOf j (Cars f) n ⌝ }
-{
-    only(car_in(j, f, n), 1)
-}
-
-fn ratio_figure(j: Junction, f: u8, n: usize) -> u32
-    ensures { λ r. ⌜ r ≡ figureOf j (Ratio f) n ⌝ }
-{
-    only(car_in(j, f, n), junction_figures::stream_ratio(j, n))
-}
-
-fn need_figure(j: Junction, f: u8, cycle: u16, n: usize) -> u32
-    ensures { λ r. ⌜ r ≡ figureOf j (Need f cycle) n ⌝ }
-{
-    only(is_in(j, f, n), junction_figures::stream_need(j, n, cycle))
-}
-
-fn figure(j: Junction, what: Sought, n: usize) -> u32
-    ensures { λ r. ⌜ r ≡ figureOf j what n ⌝ }
+fn figure(s: Stream, load: Load, what: Sought) -> u32
+    ensures { λ r. ⌜ r ≡ figureBy s load what ⌝ }
 {
     match what {
-        Sought::Number => phase_figure(j, n),
-        Sought::Slow => slow_figure(j, n),
-        Sought::Cars { phase } => cars_figure(j, phase, n),
-        Sought::Ratio { phase } => ratio_figure(j, phase, n),
-        Sought::Need { phase, cycle } => need_figure(j, phase, cycle, n),
+        Sought::Number => s.phase as u32,
+        Sought::Slow => only(is_slow(s), 1),
+        Sought::Cars { phase } => only(car_in(s, phase), 1),
+        Sought::Ratio { phase } => only(car_in(s, phase), load.ratio),
+        Sought::Need { phase, cycle } => need_in(s, phase, cycle),
     }
 }
 
-// The largest figure of the junction's streams, 0 where there is none.
-pub fn largest(j: Junction, what: Sought) -> u32
-    ensures { λ r. ⌜ r ≡ largestIn j what ⌝ }
+// The largest figure of the first streams, 0 where there is none.
+fn largest(streams: [Stream; 16], loads: Loads, n: usize, what: Sought) -> u32
+    requires { ⌜ n ≤ 16 ⌝ }
+    ensures { λ r. ⌜ r ≡ largestBy streams loads n what ⌝ }
 {
-    let streams = j.held.streams;
     let mut most: u32 = 0;
     let mut i: usize = 0;
-    while i < streams {
-        most = larger(most, figure(j, what, i + 1));
+    while i < n {
+        most = larger(most, figure(streams[i], loads.of[i], what));
         i += 1;
     }
     most
@@ -118,12 +97,14 @@ fn larger(a: u32, b: u32) -> u32
 }
 
 // The number of phases, at most six.
-pub fn phase_count(j: Junction) -> usize
+fn phase_count(j: Junction, loads: Loads) -> usize
+    requires taken { ⌜ Taken j ⌝ }
+    requires loads { ⌜ loads ≡ loadsOf j ⌝ }
     ensures { λ r. ⌜ r ≡ phaseCount j ⌝ }
     ensures few { λ r. ⌜ r ≤ 6 ⌝ }
 {
-    let last = largest(j, Sought::Number);
-    at_most_six(last)
+    let streams = j.streams;
+    at_most_six(largest(streams, loads, j.held.streams, Sought::Number))
 }
 
 fn at_most_six(n: u32) -> usize
@@ -134,20 +115,16 @@ fn at_most_six(n: u32) -> usize
 }
 
 // Whether the junction has a pedestrian or a tram, so that (33) gives its first length.
-pub fn slow(j: Junction) -> bool
+pub fn slow(j: Junction, loads: Loads) -> bool
+    requires taken { ⌜ Taken j ⌝ }
+    requires loads { ⌜ loads ≡ loadsOf j ⌝ }
     ensures { λ r. ⌜ r ≡ slowIn j ⌝ }
 {
-    1 <= largest(j, Sought::Slow)
+    let streams = j.streams;
+    1 <= largest(streams, loads, j.held.streams, Sought::Slow)
 }
 
 // The phase after a phase; the first follows the last.
-fn next_phase(j: Junction, f: u8) -> u8
-    ensures { λ r. ⌜ r ≡ nextPhase j f ⌝ }
-{
-    let count = phase_count(j);
-    following(f, count)
-}
-
 fn following(f: u8, count: usize) -> u8
     requires { ⌜ count ≤ 6 ⌝ }
     ensures { λ r. ⌜ r ≡ cond (ltb f count) (f + 1) 1 ⌝ }
@@ -158,82 +135,92 @@ fn following(f: u8, count: usize) -> u8
     1
 }
 
-// The larger entry between the streams of zone n that leads from phase f to phase g, 0 where none does.
-fn zone_figure(j: Junction, f: u8, g: u8, n: usize) -> u32
-    ensures { λ r. ⌜ r ≡ zoneFigure j f g n ⌝ }
+// The larger entry between a zone's streams, in phases a and b, that leads from phase f to phase g, 0 where none does.
+fn zone_figure(f: u8, g: u8, a: u8, b: u8, c: Conflict) -> u32
+    ensures { λ r. ⌜ r ≡ zoneFigureBy f g a b c ⌝ }
 {
-    let z = questions::zone_numbered(j, n);
-    let a = z.a.stream as usize;
-    let b = z.b.stream as usize;
-    larger(entry_between(j, f, g, a, b), entry_between(j, f, g, b, a))
-}
-
-// The entry from stream n to stream m where they are in phases f and g, else 0.
-fn entry_between(j: Junction, f: u8, g: u8, n: usize, m: usize) -> u32
-    ensures { λ r. ⌜ r ≡ entryBetween j f g n m ⌝ }
-{
-    only(
-        is_in(j, f, n) & is_in(j, g, m),
-        junction_figures::pair_entry(j, n, m) as u32,
+    larger(
+        only((a == f) & (b == g), c.ahead as u32),
+        only((b == f) & (a == g), c.behind as u32),
     )
 }
 
-fn phase_entry(j: Junction, f: u8, g: u8) -> u32
+fn phase_entry(j: Junction, conflicts: Conflicts, f: u8, g: u8) -> u32
+    requires taken { ⌜ Taken j ⌝ }
+    requires conflicts { ⌜ conflicts ≡ conflictsOf j ⌝ }
     ensures { λ r. ⌜ r ≡ phaseEntry j f g ⌝ }
 {
     let zones = j.held.zones;
     let mut most: u32 = 0;
     let mut i: usize = 0;
     while i < zones {
-        most = larger(most, zone_figure(j, f, g, i + 1));
+        let z = j.zones[i];
+        let a = j.streams[z.a.stream as usize - 1];
+        let b = j.streams[z.b.stream as usize - 1];
+        most = larger(most, zone_figure(f, g, a.phase, b.phase, conflicts.of[i]));
         i += 1;
     }
     most
 }
 
 // M of a phase: the largest entry from its streams to those of the next phase, at least 1.
-pub fn intergreen(j: Junction, f: u8) -> u32
+fn intergreen(j: Junction, conflicts: Conflicts, count: usize, f: u8) -> u32
+    requires taken { ⌜ Taken j ⌝ }
+    requires conflicts { ⌜ conflicts ≡ conflictsOf j ⌝ }
+    requires count { ⌜ count ≡ phaseCount j ⌝ }
     ensures { λ r. ⌜ r ≡ intergreenOf j f ⌝ }
 {
-    larger(1, phase_entry(j, f, next_phase(j, f)))
+    larger(1, phase_entry(j, conflicts, f, following(f, count)))
 }
 
 // The phase at a place, from 0, with its need at a cycle.
-fn phase_of(j: Junction, t: u16, i: u8) -> Phase
-    requires { ⌜ i ≤ 6 ⌝ }
+fn phase_of(j: Junction, loads: Loads, conflicts: Conflicts, count: usize, t: u16, i: u8) -> Phase
+    requires taken { ⌜ Taken j ⌝ }
+    requires loads { ⌜ loads ≡ loadsOf j ⌝ }
+    requires conflicts { ⌜ conflicts ≡ conflictsOf j ⌝ }
+    requires count { ⌜ count ≡ phaseCount j ⌝ }
+    requires place { ⌜ i ≤ 6 ⌝ }
     ensures { λ r. ⌜ r ≡ phaseAt j t i ⌝ }
 {
+    let streams = j.streams;
+    let n = j.held.streams;
     let f = i + 1;
     Phase {
-        cars: 1 <= largest(j, Sought::Cars { phase: f }),
-        ratio: largest(j, Sought::Ratio { phase: f }),
-        intergreen: intergreen(j, f),
-        need: largest(j, Sought::Need { phase: f, cycle: t }),
+        cars: 1 <= largest(streams, loads, n, Sought::Cars { phase: f }),
+        ratio: largest(streams, loads, n, Sought::Ratio { phase: f }),
+        intergreen: intergreen(j, conflicts, count, f),
+        need: largest(streams, loads, n, Sought::Need { phase: f, cycle: t }),
     }
 }
 
 // The phases of a junction, with their needs at a cycle.
-pub fn phases_at(j: Junction, t: u16) -> Phases
+pub fn phases_at(j: Junction, loads: Loads, conflicts: Conflicts, t: u16) -> Phases
+    requires taken { ⌜ Taken j ⌝ }
+    requires loads { ⌜ loads ≡ loadsOf j ⌝ }
+    requires conflicts { ⌜ conflicts ≡ conflictsOf j ⌝ }
     ensures { λ r. ⌜ r ≡ phasesAt j t ⌝ }
 {
-    let count = phase_count(j);
+    let count = phase_count(j, loads);
     let mut q = Phases {
         count,
         of: [phases::no_phase(); 6],
     };
     let mut i: usize = 0;
     while i < count {
-        q.of[i] = phase_of(j, t, i as u8);
+        q.of[i] = phase_of(j, loads, conflicts, count, t, i as u8);
         i += 1;
     }
     q
 }
 
 // The same phases with their needs at another cycle.
-pub fn at_cycle(j: Junction, q: Phases, t: u16) -> Phases
-    requires { ⌜ q ≡ phasesAt j 0 ⌝ }
+pub fn at_cycle(j: Junction, loads: Loads, q: Phases, t: u16) -> Phases
+    requires taken { ⌜ Taken j ⌝ }
+    requires loads { ⌜ loads ≡ loadsOf j ⌝ }
+    requires phases { ⌜ q ≡ phasesAt j 0 ⌝ }
     ensures { λ r. ⌜ r ≡ phasesAt j t ⌝ }
 {
+    let streams = j.streams;
     let count = q.count;
     let mut now = Phases {
         count,
@@ -241,21 +228,28 @@ pub fn at_cycle(j: Junction, q: Phases, t: u16) -> Phases
     };
     let mut i: usize = 0;
     while i < count {
-        now.of[i] = with_need(j, phases::phase_at(q, i), t, i as u8);
+        let need = largest(
+            streams,
+            loads,
+            j.held.streams,
+            Sought::Need {
+                phase: i as u8 + 1,
+                cycle: t,
+            },
+        );
+        now.of[i] = with_need(phases::phase_at(q, i), need);
         i += 1;
     }
     now
 }
 
-fn with_need(j: Junction, p: Phase, t: u16, i: u8) -> Phase
-    requires { ⌜ i ≤ 6 ⌝ }
-    ensures { λ r. ⌜ r ≡ withNeed j p t i ⌝ }
+fn with_need(p: Phase, need: u32) -> Phase
+    ensures { λ r. ⌜ r ≡ withNeed p need ⌝ }
 {
-    let f = i + 1;
     Phase {
         cars: p.cars,
         ratio: p.ratio,
         intergreen: p.intergreen,
-        need: largest(j, Sought::Need { phase: f, cycle: t }),
+        need,
     }
 }

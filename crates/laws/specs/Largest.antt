@@ -4,7 +4,7 @@ use native.Mathlib.Nat.{le-of-eq, eq-zero-or-pos, le-max-left, le-max-right, le-
 use native.Mathlib.Numerals.{add-one}
 use native.Mathlib.Omega.{arith}
 use mathlib.Core.Logic.{_↔_, ⊎-elim}
-use mathlib.Core.Path.{_≡_, refl, sym, _∙_}
+use mathlib.Core.Path.{_≡_, refl, sym, _∙_, ap₂}
 use lib.Dec.{leb}
 use borrow.Author.Tests.{leb-true, leb-false}
 use Rattle.laws.specs.Tests.{by-test}
@@ -54,3 +54,9 @@ module _ (f : ℕ → ℕ) where
         (λ (some : 0 < largestOf f n). let found = largest-found n some in le-trans (le-of-eq (sym (found .2))) (each (found .0) (found .1)))
         (eq-zero-or-pos (largestOf f n)),
   )
+
+-- two sequences with the same first numbers have the same largest
+pub largest-same : (f g : ℕ → ℕ) (n : ℕ) → ((i : ℕ) → i < n → f i ≡ g i) → largestOf f n ≡ largestOf g n
+unfolding largestOf
+largest-same f g zero same = refl
+largest-same f g (suc n) same = ap₂ max (largest-same f g n (λ i low. same i (omega arith))) (same n (omega arith))

@@ -3,7 +3,7 @@ ghost use mathlib.Core.Bool.{cond};
 ghost use mathlib.Core.Path.{_≡_};
 ghost use Prim.Native.Nat.{_+_, _-_, _*_, _≤_};
 ghost use lib.Dec.{leb};
-ghost use Rattle.phases.specs.Phases.{noPhase, phase, share as shareOf, lost as lostOf, term as termOf, sum as sumIn, ratioSum, lostTime, longEnough, firstLength, sharing as sharingOf, extra as extraOf, greenAt, startAt, firstShort, possible as possibleAt};
+ghost use Rattle.phases.specs.Phases.{noPhase, phase, share as shareOf, lost as lostOf, term as termOf, sum as sumIn, ratioSum, lostTime, longEnough, firstLength, sharing as sharingOf, extra as extraOf, greenBy, noSlot, slotsOf, firstShortIn, possible as possibleAt};
 use laws::above;
 
 // A phase: whether it has cars, the largest flow ratio of these in ten-thousandths, M toward the next phase, and the largest needed green of
@@ -27,6 +27,17 @@ pub struct Sharing {
     pub seconds: u16,
     pub ratios: u64,
     pub left: u64,
+}
+
+// A phase's start and its green, in seconds.
+pub struct Slot {
+    pub start: u64,
+    pub green: u64,
+}
+
+// Those of six places; of an empty place the green is 0.
+pub struct Slots {
+    pub of: [Slot; 6],
 }
 
 // A figure of each phase that is summed.
@@ -200,14 +211,11 @@ fn extra(before: u64, left: u64) -> u64
     if before < left { 1 } else { 0 }
 }
 
-// The green of the phase at a place: effective green less 1 with cars (36), the need without.
-pub fn green_at(q: Phases, s: Sharing, i: usize) -> u64
-    requires { ⌜ i ≤ 6 ⌝ }
-    ensures { λ r. ⌜ r ≡ greenAt q s i ⌝ }
+// The green of a phase with so many phases with cars before it: effective green less 1 with cars (36), the need without.
+fn green_of(p: Phase, s: Sharing, before: u64) -> u64
+    ensures { λ r. ⌜ r ≡ greenBy p s before ⌝ }
     ensures small { λ r. ⌜ r ≤ 281474976710656 ⌝ }
 {
-    let p = phase_at(q, i);
-    let before = sum(q, Figure::Cars, i);
     if p.cars {
         return above(
             share(p.ratio, s.seconds, s.ratios) + extra(before, s.left),
@@ -217,29 +225,40 @@ pub fn green_at(q: Phases, s: Sharing, i: usize) -> u64
     p.need as u64
 }
 
-// The start of the phase at a place: after the greens and intergreens of those before it.
-pub fn start_at(q: Phases, s: Sharing, n: usize) -> u64
-    requires { ⌜ n ≤ 6 ⌝ }
-    ensures { λ r. ⌜ r ≡ startAt q s n ⌝ }
+fn no_slot() -> Slot
+    ensures { λ r. ⌜ r ≡ noSlot ⌝ }
 {
-    let mut start: u64 = 0;
-    let mut i: usize = 0;
-    while i < n {
-        let p = phase_at(q, i);
-        start += green_at(q, s, i) + p.intergreen as u64;
-        i += 1;
-    }
-    start
+    Slot { start: 0, green: 0 }
 }
 
-fn first_short(q: Phases, s: Sharing) -> usize
-    requires { ⌜ q .count ≤ 6 ⌝ }
-    ensures { λ r. ⌜ r ≡ firstShort q s ⌝ }
+// Start and green of each place: phase 1 starts at 0, each next after the greens and intergreens of those before it.
+pub fn slots_of(q: Phases, s: Sharing) -> Slots
+    ensures { λ r. ⌜ r ≡ slotsOf q s ⌝ }
 {
-    let n = q.count;
+    let mut all = Slots { of: [no_slot(); 6] };
+    let mut start: u64 = 0;
+    let mut before: u64 = 0;
+    let mut i: usize = 0;
+    while i < 6 {
+        let p = q.of[i];
+        let green = green_of(p, s, before);
+        all.of[i] = Slot { start, green };
+        start += green + p.intergreen as u64;
+        before += one(p.cars);
+        i += 1;
+    }
+    all
+}
+
+// The first of the first places whose green is below 1; their number where none is.
+fn first_short(slots: Slots, n: usize) -> usize
+    requires { ⌜ n ≤ 6 ⌝ }
+    ensures { λ r. ⌜ r ≡ firstShortIn slots n ⌝ }
+{
     let mut i: usize = 0;
     while i < n {
-        if green_at(q, s, i) < 1 {
+        let slot = slots.of[i];
+        if slot.green < 1 {
             return i;
         }
         i += 1;
@@ -248,10 +267,11 @@ fn first_short(q: Phases, s: Sharing) -> usize
 }
 
 // Whether a length is at least its lost time and gives every phase a green of 1 or more.
-pub fn possible(q: Phases, t: u16) -> bool
-    requires { ⌜ q .count ≤ 6 ⌝ }
+pub fn possible(q: Phases, slots: Slots, t: u16) -> bool
+    requires count { ⌜ q .count ≤ 6 ⌝ }
+    requires slots { ⌜ slots ≡ slotsOf q (sharingOf q t) ⌝ }
     ensures { λ r. ⌜ r ≡ possibleAt q t ⌝ }
 {
-    let short = first_short(q, shared_out(q, t));
+    let short = first_short(slots, q.count);
     (lost_time(q) <= t as u64) & (q.count <= short)
 }

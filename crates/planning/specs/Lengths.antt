@@ -11,9 +11,8 @@ use Rattle.junction.specs.declared.Junction.{Junction}
 use Rattle.questions.specs.Questions.{streamNumbered}
 use Rattle.reading.specs.Taken.{Taken}
 use Rattle.phases.specs.Fills.{start-within}
-use Rattle.phases.specs.Phases.{sharing, greenAt, startAt, possible}
-use Rattle.phases.specs.declared.Phases.{Phases}
-use Rattle.phases.specs.declared.Sharing.{Sharing}
+use Rattle.phases.specs.Phases.{sharing, slotAt, possible}
+use Rattle.phases.specs.declared.Slot.{Slot}
 use Rattle.junction_phases.specs.JunctionPhases.{phasesAt}
 use Rattle.junction_phases.specs.Meaning.{count-phases}
 use Rattle.junction_phases.specs.Placed.{few-phases}
@@ -22,20 +21,22 @@ use Rattle.rules.specs.Rules.{needMet, capacityMet, zoneMet, rulesVerdict}
 use Rattle.planning.specs.Planning.{planAt, works}
 
 -- a phase whose start and green are at most 180
-pub record Small (q : Phases) (s : Sharing) (f : ℕ) : Type 0 where
-  pub number : Between 1 6 f
-  pub start : startAt q s (f - 1) ≤ 180
-  pub length : greenAt q s (f - 1) ≤ 180
+pub record Small (slot : Slot) : Type 0 where
+  pub start : slot .start ≤ 180
+  pub green : slot .green ≤ 180
 
 module _ (j : Junction) (taken : Taken j) (t : ℕ) where
-  -- each stream's phase lies within a length that is possible
+  -- each stream's phase has one of the six places, and lies within a length that is possible
+  pub stream-phase : (n : ℕ) → Between 1 (j .held .streams) n → Between 1 6 (streamNumbered j n .phase)
+  stream-phase n w = let f = count-phases j taken n w in omega (arith, few-phases j)
+
   pub small : possible (phasesAt j t) t ≡ true → t ≤ 180 → (n : ℕ) → Between 1 (j .held .streams) n
-      → Small (phasesAt j t) (sharing (phasesAt j t) t) (streamNumbered j n .phase)
+      → Small (slotAt (phasesAt j t) (sharing (phasesAt j t) t) (streamNumbered j n .phase - 1))
   unfolding phasesAt
   small p short n w =
       let f = count-phases j taken n w in
       let inside = start-within (phasesAt j t) (phases-right j taken t) t p (streamNumbered j n .phase - 1) (omega arith) in
-      record { number = omega (arith, few-phases j); start = omega arith; length = omega arith }
+      record { start = omega arith; green = omega arith }
 
 module _ (j : Junction) (t : ℕ) where
   -- a length fails where it is not possible, or where a stream or a zone breaks a rule ..

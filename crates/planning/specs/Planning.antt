@@ -7,9 +7,10 @@ use Rattle.laws.specs.Search.{firstBelow}
 use Rattle.fields.specs.Verdict.{isRefused}
 use Rattle.junction.specs.declared.Junction.{Junction}
 use Rattle.questions.specs.Questions.{streamNumbered}
-use Rattle.phases.specs.Phases.{ratioSum, lostTime, firstLength, sharing, greenAt, startAt, possible}
+use Rattle.phases.specs.Phases.{ratioSum, lostTime, firstLength, sharing, slotAt, possible}
 use Rattle.phases.specs.declared.Phases.{Phases}
 use Rattle.phases.specs.declared.Sharing.{Sharing}
+use Rattle.phases.specs.declared.Slot.{Slot}
 use Rattle.junction_phases.specs.JunctionPhases.{slow, phasesAt}
 use Rattle.plans.specs.declared.Green.{Green}
 use Rattle.plans.specs.declared.Plan.{Plan}
@@ -26,8 +27,11 @@ unfoldable pub firstTried : Junction → ℕ
 firstTried j = firstLength (slow j) (ratios j) (lostTime (phasesAt j 0))
 
 -- every stream gets its phase's green
+abbrev pub slotGreen : Slot → Green
+slotGreen slot = record { start = slot .start; length = slot .green }
+
 unfoldable pub phaseGreen : Phases → Sharing → ℕ → Green
-phaseGreen q s f = record { start = startAt q s (f - 1); length = greenAt q s (f - 1) }
+phaseGreen q s f = slotGreen (slotAt q s (f - 1))
 
 -- the plan of a length T
 unfoldable pub planAt : Junction → ℕ → Plan

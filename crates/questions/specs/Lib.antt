@@ -1,3 +1,5 @@
 pub mod Blank
+pub mod Parts
 pub mod Passed
 pub mod Questions
+pub mod Ranks

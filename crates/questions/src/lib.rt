@@ -1,8 +1,13 @@
 // The questions of a junction file, 3 to 9 (document 01, "Questions in order").
+ghost use mathlib.Core.Bool.{_&&_};
 ghost use mathlib.Core.Path.{_≡_};
-ghost use Prim.Native.Nat.{_<_};
-ghost use Rattle.questions.specs.Questions.{inOrder, lengthRight, inRange, withinLimit, streamNumbered, streamAt, countAt, zoneAt, zoneNumbered, exists as existsIn, isCar, zoneRefers, countRefers, refers as refersTo, bodyVerdict, inPhase, firstInPhase, phaseUsed, phaseFollows, phasesRight, carAt, firstCar, newestRank, lacksCount, firstLacking, countsVerdict, whole as wholeOf, wholeVerdict};
+ghost use Prim.Native.Nat.{ℕ, _<_};
+ghost use lib.Dec.{leb, eqb};
+ghost use lib.ListN.{getD};
+ghost use Rattle.junction.specs.declared.Junction.{Junction};
+ghost use Rattle.questions.specs.Questions.{inOrder, lengthRight, inRange, withinLimit, streamNumbered, streamAt, zoneAt, zoneNumbered, exists as existsIn, isCar, countRefers, refers as refersTo, bodyVerdict, firstInPhase, phasesRight, firstCar, newestRank, firstLacking, countsVerdict, wholeVerdict};
 ghost use Rattle.questions.specs.Blank.{noStream, noCount, noZone};
+ghost use Rattle.questions.specs.Parts.{Names, ofStreams};
 use fields::Verdict;
 use fields::ask;
 use junction::Count;
@@ -14,12 +19,19 @@ use streams::CarFigures;
 use streams::Kind;
 use streams::Stream;
 
-// Questions 3 to 7 of a field that fits, with its tag, its body and its place.
-pub fn body_verdict(tag: u8, b: &[u8], at: usize, j: Junction) -> Verdict
-    ensures { λ r. ⌜ r ≡ bodyVerdict tag (now (b .entry)) at j ⌝ }
+// Questions 3 to 7 of a field that fits, with its tag, its body and its place: held is what the junction has before it, first and second are
+// the streams that the body's first two bytes name.
+pub fn body_verdict(
+    tag: u8,
+    b: &[u8],
+    at: usize,
+    held: Held,
+    first: Stream,
+    second: Stream,
+) -> Verdict
+    ensures { λ r. ⌜ ((j : Junction) → Names j (now (b .entry)) held first second → r ≡ bodyVerdict tag (now (b .entry)) at j) ⌝ }
 {
-    let held = j.held;
-    let seven = ask(refers(tag, j, b), 7, at, Verdict::Passed);
+    let seven = ask(refers(tag, b, held, first, second), 7, at, Verdict::Passed);
     let six = ask(within_limit(tag, held), 6, at, seven);
     let five = ask(in_range(tag, b), 5, at, six);
     let four = ask(length_right(tag, b), 4, at, five);
@@ -80,8 +92,8 @@ fn within_limit(tag: u8, held: Held) -> bool
     held.counts < 128
 }
 
-fn refers(tag: u8, j: Junction, b: &[u8]) -> bool
-    ensures { λ r. ⌜ r ≡ refersTo tag j (now (b .entry)) ⌝ }
+fn refers(tag: u8, b: &[u8], held: Held, first: Stream, second: Stream) -> bool
+    ensures { λ r. ⌜ ((j : Junction) → Names j (now (b .entry)) held first second → r ≡ refersTo tag j (now (b .entry))) ⌝ }
 {
     if tag == 1 {
         return true;
@@ -89,31 +101,37 @@ fn refers(tag: u8, j: Junction, b: &[u8]) -> bool
     if tag == 2 {
         return true;
     }
+    let x = fields::byte(b, 0);
     if tag == 3 {
-        return zone_refers(j, fields::byte(b, 0), fields::byte(b, 1));
+        let y = fields::byte(b, 1);
+        return numbered(held.streams, x)
+            & numbered(held.streams, y)
+            & (x < y)
+            & !(first.phase == second.phase);
     }
-    count_refers(j, fields::byte(b, 0))
+    numbered(held.streams, x) & is_car(first)
 }
 
-fn zone_refers(j: Junction, a: u8, b: u8) -> bool
-    ensures { λ r. ⌜ r ≡ zoneRefers j a b ⌝ }
+// Whether a number is that of one of so many streams.
+fn numbered(streams: usize, n: u8) -> bool
+    ensures { λ r. ⌜ r ≡ (leb 1 n && leb n streams) ⌝ }
 {
-    let first = stream_numbered(j, a as usize);
-    let second = stream_numbered(j, b as usize);
-    exists(j, a) & exists(j, b) & (a < b) & !(first.phase == second.phase)
+    (1 <= n) & (n as usize <= streams)
 }
 
-fn count_refers(j: Junction, n: u8) -> bool
+// Whether a number is that of a car stream.
+pub fn count_refers(j: Junction, n: usize) -> bool
     ensures { λ r. ⌜ r ≡ countRefers j n ⌝ }
 {
-    let s = stream_numbered(j, n as usize);
+    let s = stream_numbered(j, n);
     exists(j, n) & is_car(s)
 }
 
-fn exists(j: Junction, n: u8) -> bool
+// Whether a stream has a number.
+pub fn exists(j: Junction, n: usize) -> bool
     ensures { λ r. ⌜ r ≡ existsIn j n ⌝ }
 {
-    (1 <= n) & (n as usize <= j.held.streams)
+    (1 <= n) & (n <= j.held.streams)
 }
 
 // The stream with a number, from 1; an empty place where no stream has the number.
@@ -168,15 +186,6 @@ pub fn no_count() -> Count
     }
 }
 
-fn count_at(j: Junction, i: usize) -> Count
-    ensures { λ r. ⌜ r ≡ countAt j i ⌝ }
-{
-    if i < 128 {
-        return j.counts[i];
-    }
-    no_count()
-}
-
 // The zone with a number, from 1; an empty place where no zone has the number.
 pub fn zone_numbered(j: Junction, number: usize) -> Zone
     ensures { λ r. ⌜ r ≡ zoneNumbered j number ⌝ }
@@ -226,7 +235,10 @@ pub fn is_car(s: Stream) -> bool
 pub fn whole_verdict(size: usize, j: Junction) -> Verdict
     ensures { λ r. ⌜ r ≡ wholeVerdict size j ⌝ }
 {
-    ask(whole(j), 8, size, counts_verdict(j))
+    let n = j.held.streams;
+    let streams = j.streams;
+    let whole = !(j.held.last == 0) & phases_right(n, streams) & (first_car(n, streams) < n);
+    ask(whole, 8, size, counts_verdict(j))
 }
 
 fn counts_verdict(j: Junction) -> Verdict
@@ -243,43 +255,25 @@ fn counts_verdict(j: Junction) -> Verdict
     }
 }
 
-fn whole(j: Junction) -> bool
-    ensures { λ r. ⌜ r ≡ wholeOf j ⌝ }
+fn phases_right(n: usize, streams: [Stream; 16]) -> bool
+    ensures { λ r. ⌜ r ≡ phasesRight (ofStreams n streams) ⌝ }
 {
-    !(j.held.last == 0) & phases_right(j) & (first_car(j) < j.held.streams)
+    let one = first_in_phase(n, streams, 1) < n;
+    let two = first_in_phase(n, streams, 2) < n;
+    let three = first_in_phase(n, streams, 3) < n;
+    let four = first_in_phase(n, streams, 4) < n;
+    let five = first_in_phase(n, streams, 5) < n;
+    let six = first_in_phase(n, streams, 6) < n;
+    one & two & (!three | two) & (!four | three) & (!five | four) & (!six | five)
 }
 
-fn phases_right(j: Junction) -> bool
-    ensures { λ r. ⌜ r ≡ phasesRight j ⌝ }
+fn first_in_phase(n: usize, streams: [Stream; 16], p: u8) -> usize
+    ensures { λ r. ⌜ r ≡ firstInPhase (ofStreams n streams) p ⌝ }
 {
-    phase_used(j, 1)
-        & phase_used(j, 2)
-        & phase_follows(j, 3)
-        & phase_follows(j, 4)
-        & phase_follows(j, 5)
-        & phase_follows(j, 6)
-}
-
-fn phase_follows(j: Junction, p: u8) -> bool
-    requires { ⌜ 0 < p ⌝ }
-    ensures { λ r. ⌜ r ≡ phaseFollows j p ⌝ }
-{
-    !phase_used(j, p) | phase_used(j, p - 1)
-}
-
-fn phase_used(j: Junction, p: u8) -> bool
-    ensures { λ r. ⌜ r ≡ phaseUsed j p ⌝ }
-{
-    first_in_phase(j, p) < j.held.streams
-}
-
-fn first_in_phase(j: Junction, p: u8) -> usize
-    ensures { λ r. ⌜ r ≡ firstInPhase j p ⌝ }
-{
-    let n = j.held.streams;
     let mut i: usize = 0;
     while i < n {
-        if in_phase(j, i, p) {
+        let s = if i < 16 { streams[i] } else { no_stream() };
+        if s.phase == p {
             return i;
         }
         i += 1;
@@ -287,20 +281,13 @@ fn first_in_phase(j: Junction, p: u8) -> usize
     i
 }
 
-fn in_phase(j: Junction, i: usize, p: u8) -> bool
-    ensures { λ r. ⌜ r ≡ inPhase j p i ⌝ }
+fn first_car(n: usize, streams: [Stream; 16]) -> usize
+    ensures { λ r. ⌜ r ≡ firstCar (ofStreams n streams) ⌝ }
 {
-    let s = stream_at(j, i);
-    s.phase == p
-}
-
-fn first_car(j: Junction) -> usize
-    ensures { λ r. ⌜ r ≡ firstCar j ⌝ }
-{
-    let n = j.held.streams;
     let mut i: usize = 0;
     while i < n {
-        if car_at(j, i) {
+        let s = if i < 16 { streams[i] } else { no_stream() };
+        if is_car(s) {
             return i;
         }
         i += 1;
@@ -308,19 +295,21 @@ fn first_car(j: Junction) -> usize
     i
 }
 
-fn car_at(j: Junction, i: usize) -> bool
-    ensures { λ r. ⌜ r ≡ carAt j i ⌝ }
-{
-    is_car(stream_at(j, i))
-}
-
+// The first place of a car without a usable count. A place past the numbers of one byte, which no file has, asks the counts again.
 fn first_lacking(j: Junction) -> usize
     ensures { λ r. ⌜ r ≡ firstLacking j ⌝ }
 {
+    let ranks = newest_ranks(j);
     let n = j.held.streams;
     let mut i: usize = 0;
     while i < n {
-        if lacks_count(j, i) {
+        let s = if i < 16 { j.streams[i] } else { no_stream() };
+        let rank = if i < 255 {
+            ranks[i + 1]
+        } else {
+            newest_rank(j, i + 1)
+        };
+        if lacks_count(s, rank) {
             return i;
         }
         i += 1;
@@ -328,11 +317,27 @@ fn first_lacking(j: Junction) -> usize
     i
 }
 
-fn lacks_count(j: Junction, i: usize) -> bool
-    requires { ⌜ i < j .held .streams ⌝ }
-    ensures { λ r. ⌜ r ≡ lacksCount j i ⌝ }
+fn lacks_count(s: Stream, rank: u32) -> bool
+    ensures { λ r. ⌜ r ≡ (isCar (s .kind) && eqb rank 0) ⌝ }
 {
-    car_at(j, i) & (newest_rank(j, i + 1) == 0)
+    is_car(s) & (rank == 0)
+}
+
+// For each number of one byte the rank of the count that gives its stream the flow, by one pass over the counts.
+pub fn newest_ranks(j: Junction) -> [u32; 256]
+    ensures { λ r. ⌜ ((n : ℕ) → n < 256 → getD r n 0 ≡ newestRank j n) ⌝ }
+{
+    let held = j.held.counts;
+    let mut ranks: [u32; 256] = [0; 256];
+    let mut i: usize = 0;
+    while i < held {
+        let c = if i < 128 { j.counts[i] } else { no_count() };
+        let n = c.stream as usize;
+        let best = ranks[n];
+        ranks[n] = counts::newer(best, n, j.day, c.stream, c.day, c.flow);
+        i += 1;
+    }
+    ranks
 }
 
 // The rank of the count that gives the stream with a number its flow, 0 where none is usable.
@@ -343,7 +348,7 @@ pub fn newest_rank(j: Junction, n: usize) -> u32
     let mut best: u32 = 0;
     let mut i: usize = 0;
     while i < held {
-        let c = count_at(j, i);
+        let c = if i < 128 { j.counts[i] } else { no_count() };
         best = counts::newer(best, n, j.day, c.stream, c.day, c.flow);
         i += 1;
     }

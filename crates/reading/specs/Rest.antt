@@ -3,17 +3,18 @@ use Prim.Native.Nat.{ℕ, zero, suc, _-_, _≤_, _<_}
 use native.Mathlib.Omega.{arith}
 use mathlib.Core.Bool.{true, false}
 use mathlib.Core.List.{List}
-use mathlib.Core.Path.{_≡_, refl, sym, _∙_}
+use mathlib.Core.Path.{_≡_, refl, sym, _∙_, ap}
 use lib.ListN.{length}
 use borrow.Author.Tests.{lt-ltb, le-ltb}
-use Rattle.fields.specs.Bytes.{fieldEnd, fits-within, field-long}
+use Rattle.fields.specs.Bytes.{byteAt, fieldEnd, bodyOf, fits-within, field-long}
 use Rattle.fields.specs.Verdict.{isRefused, not-refused}
 use Rattle.fields.specs.declared.Verdict.the-variants.{Passed}
 use Rattle.junction.specs.declared.Junction.{Junction}
+use Rattle.junction.specs.declared.Reading.{Reading}
 use Rattle.questions.specs.Blank.{blank}
 use Rattle.questions.specs.Passed.{field-passed}
 use Rattle.questions.specs.Questions.{fieldVerdict}
-use Rattle.reading.specs.Reading.{afterField, readField, atEnd, readFrom}
+use Rattle.reading.specs.Reading.{withField, afterField, readField, atEnd, readFrom}
 
 pub record Rest (s : List ℕ) (at : ℕ) (j : Junction) : Type 0 where
   pub fuel : ℕ
@@ -40,9 +41,10 @@ module _ (s : List ℕ) (at : ℕ) (j : Junction) where
   from-refused zero few h t = absurd (omega arith)
   from-refused (suc fuel) few h t = rw (lt-ltb at (length s) h, t)
 
-  pub rest-refused : Rest s at j → at < length s → isRefused (readField s at j .verdict) ≡ true
-      → readField s at j ≡ readFrom (length s) s 0 blank
-  rest-refused r h t = sym (from-refused (r .fuel) (r .enough) h t) ∙ r .same
+  pub rest-refused : Rest s at j → at < length s → isRefused (fieldVerdict s at j) ≡ true
+      → _≡_ {A = Reading} (record { verdict = fieldVerdict s at j; junction = j }) (readFrom (length s) s 0 blank)
+  unfolding readField afterField
+  rest-refused r h t = simp t at (sym (from-refused (r .fuel) (r .enough) h t) ∙ r .same)
 
   -- a field that is not refused fits the file
   pub passed-field : isRefused (readField s at j .verdict) ≡ false → fieldVerdict s at j ≡ Passed
@@ -62,7 +64,8 @@ module _ (s : List ℕ) (at : ℕ) (j : Junction) where
         same = simp (lt-ltb at (length s) h, t) at same;
       }
 
-  pub rest-turns : Rest s at j → at < length s → isRefused (readField s at j .verdict) ≡ false
-      → Rest s (fieldEnd s at) (readField s at j .junction)
-  rest-turns r h t =
-      from-passed (r .fuel) (r .enough) h t (fits-within s at (field-passed s at j (passed-field t) .0) .1) (r .same)
+  pub rest-turns : Rest s at j → at < length s → fieldVerdict s at j ≡ Passed
+      → Rest s (fieldEnd s at) (withField (byteAt s at) (bodyOf s at) j)
+  unfolding readField afterField
+  rest-turns r h e =
+      simp e at (from-passed (r .fuel) (r .enough) h (ap isRefused e) (fits-within s at (field-passed s at j e .0) .1) (r .same))

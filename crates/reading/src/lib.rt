@@ -3,13 +3,19 @@ ghost use mathlib.Core.Bool.{true};
 ghost use mathlib.Core.Path.{_≡_};
 ghost use Prim.Native.Nat.{_<_};
 ghost use lib.ListN.{length};
+ghost use Rattle.fields.specs.Bytes.{byteAt, fits, bodyOf};
+ghost use Rattle.junction.specs.declared.Junction.{Junction};
 ghost use Rattle.questions.specs.Blank.{blank as blankOf};
-ghost use Rattle.questions.specs.Questions.{withinLimit, bodyVerdict};
-ghost use Rattle.reading.specs.Reading.{withHeading, withStream, withZone, withCount, withField, afterField, readField, atEnd, readFrom, reading};
+ghost use Rattle.questions.specs.Parts.{Names};
+ghost use Rattle.questions.specs.Questions.{fieldVerdict};
+ghost use Rattle.reading.specs.Named.{streamPlace};
+ghost use Rattle.reading.specs.Reading.{atEnd, readFrom, reading};
 use fields::Verdict;
 use junction::Held;
 use junction::Junction;
 use junction::Reading;
+use questions::no_stream;
+use streams::Stream;
 
 // The answer to every sequence of bytes: a junction, or the first refusal with its number and place. The junction is to be used only where
 // nothing is refused.
@@ -28,22 +34,99 @@ pub fn read(file: &[u8]) -> Reading
     }
 }
 
+// The junction stays in this function: passing it on for each field would copy all of it.
 fn read_fields(file: &[u8]) -> Reading
     ensures { λ r. ⌜ r ≡ readFrom (length (now (file .entry))) (now (file .entry)) 0 blankOf ⌝ }
 {
     let mut at: usize = 0;
     let mut j = blank();
     while at < file.len() {
-        let step = read_field(file, at, j);
-        let verdict = step.verdict;
+        let held = j.held;
+        let a = named_place(file, at, 0);
+        let b = named_place(file, at, 1);
+        let first = if a < 16 { j.streams[a] } else { no_stream() };
+        let second = if b < 16 { j.streams[b] } else { no_stream() };
+        let verdict = field_verdict(file, at, held, first, second);
         if fields::refused(verdict) {
-            return step;
+            return Reading {
+                verdict,
+                junction: j,
+            };
         }
-        let next = step.junction;
-        j = next;
+        let tag = file[at];
+        let body = body_at(file, at);
         at = fields::field_end(file, at);
+        if tag == 1 {
+            j.day = junction::design_day(body);
+            j.held.last = 1;
+            continue;
+        }
+        if tag == 2 {
+            let n = held.streams;
+            j.streams[n] = junction::stream_of(body);
+            j.held.last = 2;
+            j.held.streams = n + 1;
+            continue;
+        }
+        if tag == 3 {
+            let n = held.zones;
+            j.zones[n] = junction::zone_of(body);
+            j.held.last = 3;
+            j.held.zones = n + 1;
+            continue;
+        }
+        let n = held.counts;
+        j.counts[n] = junction::count_of(body);
+        j.held.last = 4;
+        j.held.counts = n + 1;
     }
     at_end(file.len(), j)
+}
+
+// The place of the stream that a byte of the field's body names, the first or the second.
+fn named_place(file: &[u8], at: usize, k: usize) -> usize
+    requires { ⌜ (at < length (now file)) × (k < 2) ⌝ }
+    ensures { λ r. ⌜ r ≡ streamPlace (byteAt (bodyOf (now (file .entry)) at) k) ⌝ }
+{
+    if k < fields::number(file, at + 1) as usize {
+        return stream_place(fields::byte(file, at + 3 + k));
+    }
+    stream_place(0)
+}
+
+// The place of the stream with a number; the number 0 has the place past the last.
+fn stream_place(n: u8) -> usize
+    ensures { λ r. ⌜ r ≡ streamPlace n ⌝ }
+{
+    if n == 0 {
+        return 16;
+    }
+    n as usize - 1
+}
+
+// Questions 2 to 7 of a field: held is what the junction has before it, first and second are the streams that the body's first two bytes
+// name.
+fn field_verdict(file: &[u8], at: usize, held: Held, first: Stream, second: Stream) -> Verdict
+    requires { ⌜ at < length (now file) ⌝ }
+    ensures { λ r. ⌜ ((j : Junction) → Names j (bodyOf (now (file .entry)) at) held first second → r ≡ fieldVerdict (now (file .entry)) at j) ⌝ }
+{
+    if fields::fits(file, at) {
+        return questions::body_verdict(file[at], body_at(file, at), at, held, first, second);
+    }
+    Verdict::Refused {
+        number: 2,
+        place: at,
+    }
+}
+
+// The body of a field that fits.
+fn body_at(file: &[u8], at: usize) -> &[u8]
+    requires { ⌜ fits (now file) at ≡ true ⌝ }
+    ensures { λ r. ⌜ now r ≡ bodyOf (now (file .entry)) at ⌝ }
+{
+    let start = at + 3;
+    let end = fields::field_end(file, at);
+    &file[start..end]
 }
 
 fn at_end(size: usize, j: Junction) -> Reading
@@ -55,45 +138,10 @@ fn at_end(size: usize, j: Junction) -> Reading
     }
 }
 
-fn read_field(file: &[u8], at: usize, j: Junction) -> Reading
-    requires { ⌜ at < length (now file) ⌝ }
-    ensures { λ r. ⌜ r ≡ readField (now (file .entry)) at j ⌝ }
-{
-    if fields::fits(file, at) {
-        let end = fields::field_end(file, at);
-        let start = at + 3;
-        return judged_field(file[at], &file[start..end], at, j);
-    }
-    Reading {
-        verdict: Verdict::Refused {
-            number: 2,
-            place: at,
-        },
-        junction: j,
-    }
-}
-
-// The field's questions 3 to 7, and the junction with it where nothing is refused.
-fn judged_field(tag: u8, b: &[u8], at: usize, j: Junction) -> Reading
-    ensures { λ r. ⌜ r ≡ afterField (bodyVerdict tag (now (b .entry)) at j) tag (now (b .entry)) j ⌝ }
-{
-    let verdict = questions::body_verdict(tag, b, at, j);
-    if fields::refused(verdict) {
-        return Reading {
-            verdict,
-            junction: j,
-        };
-    }
-    Reading {
-        verdict,
-        junction: with_field(tag, b, j),
-    }
-}
-
 fn blank() -> Junction
     ensures { λ r. ⌜ r ≡ blankOf ⌝ }
 {
-    let stream = questions::no_stream();
+    let stream = no_stream();
     let zone = questions::no_zone();
     let count = questions::no_count();
     Junction {
@@ -108,65 +156,4 @@ fn blank() -> Junction
         zones: [zone; 64],
         counts: [count; 128],
     }
-}
-
-fn with_heading(b: &[u8], j: Junction) -> Junction
-    ensures { λ r. ⌜ r ≡ withHeading (now (b .entry)) j ⌝ }
-{
-    let mut next = j;
-    next.day = junction::design_day(b);
-    next.held.last = 1;
-    next
-}
-
-fn with_stream(b: &[u8], j: Junction) -> Junction
-    requires { ⌜ j .held .streams < 16 ⌝ }
-    ensures { λ r. ⌜ r ≡ withStream (now (b .entry)) j ⌝ }
-{
-    let mut next = j;
-    let n = j.held.streams;
-    next.streams[n] = junction::stream_of(b);
-    next.held.last = 2;
-    next.held.streams = n + 1;
-    next
-}
-
-fn with_zone(b: &[u8], j: Junction) -> Junction
-    requires { ⌜ j .held .zones < 64 ⌝ }
-    ensures { λ r. ⌜ r ≡ withZone (now (b .entry)) j ⌝ }
-{
-    let mut next = j;
-    let n = j.held.zones;
-    next.zones[n] = junction::zone_of(b);
-    next.held.last = 3;
-    next.held.zones = n + 1;
-    next
-}
-
-fn with_count(b: &[u8], j: Junction) -> Junction
-    requires { ⌜ j .held .counts < 128 ⌝ }
-    ensures { λ r. ⌜ r ≡ withCount (now (b .entry)) j ⌝ }
-{
-    let mut next = j;
-    let n = j.held.counts;
-    next.counts[n] = junction::count_of(b);
-    next.held.last = 4;
-    next.held.counts = n + 1;
-    next
-}
-
-fn with_field(tag: u8, b: &[u8], j: Junction) -> Junction
-    requires { ⌜ withinLimit tag (j .held) ≡ true ⌝ }
-    ensures { λ r. ⌜ r ≡ withField tag (now (b .entry)) j ⌝ }
-{
-    if tag == 1 {
-        return with_heading(b, j);
-    }
-    if tag == 2 {
-        return with_stream(b, j);
-    }
-    if tag == 3 {
-        return with_zone(b, j);
-    }
-    with_count(b, j)
 }

@@ -1,3 +1,4 @@
 pub mod Off
 pub mod Rules
 pub mod Same
+pub mod Tabled

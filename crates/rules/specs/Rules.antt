@@ -1,29 +1,37 @@
 -- The rules of document 01, "Judging a plan", each over all streams or zones before the next, the lowest first.
 use Prim.Native.Nat.{ℕ, _+_, _-_, _*_}
 use mathlib.Core.Bool.{Bool, _&&_, _||_, not, cond}
-use lib.Dec.{leb, eqb}
+use lib.Dec.{leb}
+use Rattle.streams.specs.declared.Stream.{Stream}
+use Rattle.flows.specs.Needs.{needAt}
 use Rattle.fields.specs.Verdict.{askEach}
 use Rattle.fields.specs.declared.Verdict.{Verdict}
 use Rattle.fields.specs.declared.Verdict.the-variants.{Passed}
 use Rattle.junction.specs.declared.Junction.{Junction}
 use Rattle.questions.specs.Questions.{streamNumbered, zoneNumbered, isCar}
-use Rattle.junction_figures.specs.Figures.{pairEntry, streamNeed, streamFlow, streamSaturation}
+use Rattle.tables.specs.Tables.{conflictOf, loadOf}
+use Rattle.tables.specs.declared.Conflict.{Conflict}
+use Rattle.tables.specs.declared.Load.{Load}
 use Rattle.plans.specs.declared.Green.{Green}
 use Rattle.plans.specs.declared.Plan.{Plan}
 use Rattle.plans.specs.Plans.{greenOf}
 
--- 15: the length of stream n is at least its need at C
+-- 15: the length is at least the stream's need at C
+abbrev pub enoughGreen : Stream → Green → ℕ → Bool
+enoughGreen s green cycle = leb (needAt cycle s) (green .length)
+
 unfoldable pub needMet : Junction → Plan → ℕ → Bool
-needMet j p n = leb (streamNeed j n (p .cycle)) (greenOf p n .length)
+needMet j p n = enoughGreen (streamNumbered j n) (greenOf p n) (p .cycle)
 
 -- 16: for cars, flow × C is at most S × (length + 1)
 unfoldable pub enoughCapacity : ℕ → ℕ → ℕ → ℕ → Bool
 enoughCapacity flow cycle saturation length = leb (flow * cycle) (saturation * (length + 1))
 
+abbrev pub served : Stream → Load → Green → ℕ → Bool
+served s load green cycle = not (isCar (s .kind)) || enoughCapacity (load .flow) cycle (load .saturation) (green .length)
+
 unfoldable pub capacityMet : Junction → Plan → ℕ → Bool
-capacityMet j p n =
-    not (isCar (streamNumbered j n .kind))
-    || enoughCapacity (streamFlow j n) (p .cycle) (streamSaturation j n) (greenOf p n .length)
+capacityMet j p n = served (streamNumbered j n) (loadOf j n) (greenOf p n) (p .cycle)
 
 -- off = (start b - start a) modulo C, for starts below C
 unfoldable pub off : ℕ → ℕ → ℕ → ℕ
@@ -34,16 +42,12 @@ unfoldable pub zoneClear : ℕ → Green → Green → ℕ → ℕ → Bool
 zoneClear cycle a b ahead behind =
     leb (a .length + ahead) (off cycle (a .start) (b .start)) && leb (off cycle (a .start) (b .start) + b .length + behind) cycle
 
+abbrev pub conflictMet : Conflict → Plan → Bool
+conflictMet c p = zoneClear (p .cycle) (greenOf p (c .a)) (greenOf p (c .b)) (c .ahead) (c .behind)
+
 -- the entries are the pair's, over all of its zones, so a pair that is too close is refused at its lowest zone
 unfoldable pub zoneMet : Junction → Plan → ℕ → Bool
-zoneMet j p n =
-    let a = zoneNumbered j n .a .stream in
-    let b = zoneNumbered j n .b .stream in
-    zoneClear (p .cycle) (greenOf p a) (greenOf p b) (pairEntry j a b) (pairEntry j b a)
-
--- the rule with a number: 15, 16, else 17
-unfoldable pub ruleMet : ℕ → Junction → Plan → ℕ → Bool
-ruleMet rule j p n = cond (eqb rule 15) (needMet j p n) (cond (eqb rule 16) (capacityMet j p n) (zoneMet j p n))
+zoneMet j p n = conflictMet (conflictOf j (zoneNumbered j n)) p
 
 unfoldable pub rulesVerdict : Junction → Plan → Verdict
 rulesVerdict j p =

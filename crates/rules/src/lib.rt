@@ -1,44 +1,64 @@
 // The rules that a plan has to meet: needed green, capacity, and clear conflict zones (document 01, "Judging a plan").
 ghost use mathlib.Core.Path.{_≡_};
-ghost use Prim.Native.Nat.{_≤_};
-ghost use Rattle.fields.specs.Verdict.{firstFailing, askEach};
-ghost use Rattle.rules.specs.Rules.{off as offOf, needMet, enoughCapacity, capacityMet, zoneClear, zoneMet, ruleMet, rulesVerdict};
+ghost use Prim.Native.Nat.{_+_, _≤_, _<_};
+ghost use Rattle.fields.specs.Verdict.{firstFailing};
+ghost use Rattle.fields.specs.declared.Verdict.the-variants.{Refused};
+ghost use Rattle.reading.specs.Taken.{Taken};
+ghost use Rattle.tables.specs.Tables.{conflictNumbered, loadsOf};
+ghost use Rattle.rules.specs.Rules.{off as offOf, enoughGreen, needMet, enoughCapacity, served, capacityMet, zoneClear, conflictMet, rulesVerdict};
 use fields::Verdict;
 use junction::Junction;
 use plans::Green;
 use plans::Plan;
+use streams::Stream;
+use tables::Conflict;
+use tables::Conflicts;
+use tables::Load;
+use tables::Loads;
 
 // The verdict on a plan for a junction: no refusal, or 15 or 16 with the lowest stream, or 17 with the lowest zone, that breaks the rule.
 // Each rule is asked of all streams or zones before the next.
 pub fn verdict(j: Junction, p: Plan) -> Verdict
+    requires { ⌜ Taken j ⌝ }
     ensures { λ r. ⌜ r ≡ rulesVerdict j p ⌝ }
 {
     let streams = j.held.streams;
     let zones = j.held.zones;
-    let seventeen = rule_verdict(17, zones, j, p, Verdict::Passed);
-    let sixteen = rule_verdict(16, streams, j, p, seventeen);
-    rule_verdict(15, streams, j, p, sixteen)
+    let short = first_short(j, p);
+    if short < streams {
+        return broken(15, short);
+    }
+    let unserved = first_unserved(j, tables::loads_of(j), p);
+    if unserved < streams {
+        return broken(16, unserved);
+    }
+    let unclear = first_unclear(zones, tables::conflicts_of(j), p);
+    if unclear < zones {
+        return broken(17, unclear);
+    }
+    Verdict::Passed
 }
 
-fn rule_verdict(rule: u8, n: usize, j: Junction, p: Plan, later: Verdict) -> Verdict
-    ensures { λ r. ⌜ r ≡ askEach (ruleMet rule j p) rule n later ⌝ }
+// A rule broken at a place, from 0.
+fn broken(rule: u8, place: usize) -> Verdict
+    requires { ⌜ place < 64 ⌝ }
+    ensures { λ r. ⌜ r ≡ Refused rule (place + 1) ⌝ }
 {
-    let first = first_broken(rule, n, j, p);
-    if n <= first {
-        return later;
-    }
     Verdict::Refused {
         number: rule,
-        place: first + 1,
+        place: place + 1,
     }
 }
 
-fn first_broken(rule: u8, n: usize, j: Junction, p: Plan) -> usize
-    ensures { λ r. ⌜ r ≡ firstFailing (ruleMet rule j p) n ⌝ }
+// The first place of a stream without its needed green; the number of streams where each has it.
+fn first_short(j: Junction, p: Plan) -> usize
+    requires { ⌜ Taken j ⌝ }
+    ensures { λ r. ⌜ r ≡ firstFailing (needMet j p) (j .held .streams) ⌝ }
 {
+    let streams = j.held.streams;
     let mut i: usize = 0;
-    while i < n {
-        if !rule_met(rule, j, p, i + 1) {
+    while i < streams {
+        if !need_met(j.streams[i], plans::green_of(p, i + 1), p.cycle) {
             return i;
         }
         i += 1;
@@ -46,64 +66,75 @@ fn first_broken(rule: u8, n: usize, j: Junction, p: Plan) -> usize
     i
 }
 
-fn rule_met(rule: u8, j: Junction, p: Plan, n: usize) -> bool
-    ensures { λ r. ⌜ r ≡ ruleMet rule j p n ⌝ }
+// The first place of a car stream without its capacity.
+fn first_unserved(j: Junction, loads: Loads, p: Plan) -> usize
+    requires taken { ⌜ Taken j ⌝ }
+    requires loads { ⌜ loads ≡ loadsOf j ⌝ }
+    ensures { λ r. ⌜ r ≡ firstFailing (capacityMet j p) (j .held .streams) ⌝ }
 {
-    if rule == 15 {
-        return need_met(j, p, n);
+    let streams = j.held.streams;
+    let mut i: usize = 0;
+    while i < streams {
+        if !capacity_met(
+            j.streams[i],
+            loads.of[i],
+            plans::green_of(p, i + 1),
+            p.cycle,
+        ) {
+            return i;
+        }
+        i += 1;
     }
-    if rule == 16 {
-        return capacity_met(j, p, n);
-    }
-    zone_met(j, p, n)
+    i
 }
 
-// Whether stream n has its needed green at the plan's cycle.
-pub fn need_met(j: Junction, p: Plan, n: usize) -> bool
-    ensures { λ r. ⌜ r ≡ needMet j p n ⌝ }
+// The first place of a zone whose streams' greens do not keep their entries apart.
+fn first_unclear(zones: usize, conflicts: Conflicts, p: Plan) -> usize
+    requires { ⌜ zones ≤ 64 ⌝ }
+    ensures { λ r. ⌜ r ≡ firstFailing (λ n. conflictMet (conflictNumbered conflicts n) p) zones ⌝ }
 {
-    let green = plans::green_of(p, n);
-    junction_figures::stream_need(j, n, p.cycle) <= green.length as u32
+    let mut i: usize = 0;
+    while i < zones {
+        if !zone_met(conflicts.of[i], p) {
+            return i;
+        }
+        i += 1;
+    }
+    i
 }
 
-// Whether stream n has its capacity; streams other than cars have no rule of capacity.
-pub fn capacity_met(j: Junction, p: Plan, n: usize) -> bool
-    ensures { λ r. ⌜ r ≡ capacityMet j p n ⌝ }
+// Whether a stream with this green has its needed green at the cycle.
+pub fn need_met(s: Stream, green: Green, cycle: u16) -> bool
+    ensures { λ r. ⌜ r ≡ enoughGreen s green cycle ⌝ }
 {
-    let green = plans::green_of(p, n);
-    let flow = junction_figures::stream_flow(j, n);
-    let saturation = junction_figures::stream_saturation(j, n);
-    !questions::is_car(questions::stream_numbered(j, n))
-        | enough_capacity(flow, p.cycle, saturation, green.length)
+    flows::need(s, cycle) <= green.length as u32
+}
+
+// Whether a stream with this load and green has its capacity; streams other than cars have no rule of capacity.
+pub fn capacity_met(s: Stream, load: Load, green: Green, cycle: u16) -> bool
+    ensures { λ r. ⌜ r ≡ served s load green cycle ⌝ }
+{
+    !questions::is_car(s) | enough_capacity(load.flow, cycle, load.saturation, green.length)
 }
 
 // Whether a green of this length in each cycle serves a flow: flow × cycle at most S × (length + 1).
-pub fn enough_capacity(flow: u16, cycle: u16, saturation: u32, length: u16) -> bool
+fn enough_capacity(flow: u16, cycle: u16, saturation: u32, length: u16) -> bool
     ensures { λ r. ⌜ r ≡ enoughCapacity flow cycle saturation length ⌝ }
 {
     flow as u64 * cycle as u64 <= saturation as u64 * (length as u64 + 1)
 }
 
-// Whether the greens of the streams of zone n keep their entries apart.
-pub fn zone_met(j: Junction, p: Plan, n: usize) -> bool
-    ensures { λ r. ⌜ r ≡ zoneMet j p n ⌝ }
+// Whether the greens of a zone's streams keep their entries apart.
+pub fn zone_met(c: Conflict, p: Plan) -> bool
+    ensures { λ r. ⌜ r ≡ conflictMet c p ⌝ }
 {
-    let z = questions::zone_numbered(j, n);
-    let a = z.a.stream as usize;
-    let b = z.b.stream as usize;
-    let ahead = junction_figures::pair_entry(j, a, b);
-    let behind = junction_figures::pair_entry(j, b, a);
-    zone_clear(
-        p.cycle,
-        plans::green_of(p, a),
-        plans::green_of(p, b),
-        ahead,
-        behind,
-    )
+    let a = plans::green_of(p, c.a as usize);
+    let b = plans::green_of(p, c.b as usize);
+    zone_clear(p.cycle, a, b, c.ahead, c.behind)
 }
 
 // Whether two greens of a cycle keep their entries apart: from the end of a to the start of b, and from the end of b to a's next start.
-pub fn zone_clear(cycle: u16, a: Green, b: Green, ahead: u16, behind: u16) -> bool
+fn zone_clear(cycle: u16, a: Green, b: Green, ahead: u16, behind: u16) -> bool
     ensures { λ r. ⌜ r ≡ zoneClear cycle a b ahead behind ⌝ }
 {
     let after = off(cycle, a.start, b.start);

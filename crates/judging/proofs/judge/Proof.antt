@@ -1,8 +1,9 @@
 -- `judging::judge` meets its contract: the test says whether the junction's questions refuse it.
 use borrow.Author.Needs.{needs}
 use mathlib.Core.Path.{sym, _∙_, ap}
-use Rattle.fields.specs.Verdict.{isRefused, first-refused, first-passed}
+use Rattle.fields.specs.Verdict.{isRefused, not-refused, first-refused, first-passed}
 use Rattle.reading.specs.Reading.{reading}
+use Rattle.reading.specs.Taken.{taken}
 use Rattle.judging.specs.Judgement.{planJudgement, judgement}
 use Rattle.judging.proofs.judge.Statement.{statement}
 use Rattle.judging.proofs.judge.Tie as tie
@@ -18,7 +19,7 @@ unfolding judgement
 returns c = let e = c .before .before .read .ensures in ap (λ r. r .verdict) e ∙ sym (first-refused _ _ (ap (λ r. isRefused (r .verdict)) (sym e) ∙ sym (c .before .refused .ensures) ∙ c .if1 .taken))
 
 judge-plan-requires : tie.Need-judge-plan-requires
-judge-plan-requires c κs = search needs
+judge-plan-requires c κs = let e = c .before .before .read .ensures in rw e (taken (c .before .before .before .before .before .args .junction .now) (not-refused _ (ap (λ r. isRefused (r .verdict)) (sym e) ∙ sym (c .before .refused .ensures) ∙ c .if1 .left)))
 
 returns-2 : tie.Need-returns-2
 unfolding judgement

@@ -1,8 +1,11 @@
 -- `junction_figures::pair_entry` meets its contract: the invariant is that the most so far is the largest of the zones passed.
 use Prim.Native.Nat.{_-_, _≤_}
+use mathlib.Core.Logic.{⊎-elim}
 use mathlib.Core.Path.{_≡_, sym, _∙_, ap}
 use native.Mathlib.Nat.{le-antisymm}
 use native.Mathlib.Omega.{arith}
+use borrow.Author.Needs.{needs}
+use borrow.Author.Tests.{lt-ltb, le-ltb}
 use Rattle.laws.specs.Largest.{largestOf, largest-none, largest-next}
 use Rattle.questions.specs.Questions.{zoneAt}
 use Rattle.junction_figures.specs.Figures.{zoneEntry, pairEntry}
@@ -10,16 +13,34 @@ use Rattle.junction_figures.proofs.pair_entry.Statement.{statement}
 use Rattle.junction_figures.proofs.pair_entry.Tie as tie
 
 abbrev Inv-loop : tie.InvT-loop
-Inv-loop j n m zones most₀ i₀ most i = (i ≤ j .held .zones) × (most ≡ largestOf (λ k. zoneEntry j n m (zoneAt j k)) i)
+Inv-loop n m j zones from to most₀ i₀ most i =
+    (i ≤ j .held .zones) × (most ≡ largestOf (λ k. zoneEntry j n m (zoneAt j k)) i)
 
 abbrev μ-loop : tie.MeasureT-loop
-μ-loop j n m zones most₀ i₀ most i = j .held .zones - i
+μ-loop n m j zones from to most₀ i₀ most i = j .held .zones - i
+
+stream-numbered-requires : tie.Need-stream-numbered-requires Inv-loop μ-loop
+stream-numbered-requires c κs = tt
+
+stream-numbered-requires-2 : tie.Need-stream-numbered-requires-2 Inv-loop μ-loop
+stream-numbered-requires-2 c κs = tt
 
 loop-holds : tie.Need-loop-holds Inv-loop μ-loop
 loop-holds c = (omega arith, sym (largest-none _))
 
-zone-at-requires : tie.Need-zone-at-requires Inv-loop μ-loop
-zone-at-requires c κs = tt
+mul-z : tie.Need-mul-z Inv-loop μ-loop
+mul-z c = search needs
+
+element-copy-out-z : tie.Need-element-copy-out-z Inv-loop μ-loop
+element-copy-out-z c = c .if1 .taken
+
+no-zone-requires : tie.Need-no-zone-requires Inv-loop μ-loop
+no-zone-requires c κs = tt
+
+here : (c : tie.Joined1 Inv-loop μ-loop) → c .if1 .z ≡ zoneAt (c .before .before .before .before .before .args .t1) (c .before .before .loop .i)
+unfolding zoneAt
+here c =
+    ⊎-elim (λ w. w .2 ∙ simp (lt-ltb _ _ (w .0 .taken))) (λ w. w .2 ∙ simp (le-ltb _ _ (w .0 .left), w .1 .ensures)) (c .if1 .came)
 
 zone-entry-requires : tie.Need-zone-entry-requires Inv-loop μ-loop
 zone-entry-requires c κs = tt
@@ -34,10 +55,11 @@ loop-less : tie.Need-loop-less Inv-loop μ-loop
 loop-less c = omega arith
 
 loop-again : tie.Need-loop-again Inv-loop μ-loop
+unfolding zoneEntry
 loop-again c =
     let l = c .before .before .before .before .loop in (
       omega arith,
-      simp (c .larger .ensures, c .before .zone-entry .ensures, c .before .before .zone-at .ensures, l .inv .1, largest-next),
+      simp (c .larger .ensures, c .before .zone-entry .ensures, here (c .before .before), c .before .before .before .before .before .stream-numbered2 .ensures, c .before .before .before .before .before .before .stream-numbered .ensures, l .inv .1, largest-next),
     )
 
 returns : tie.Need-returns Inv-loop μ-loop
@@ -52,8 +74,12 @@ pair-entry-spec =
     (tie.spec
     Inv-loop
     μ-loop
+    stream-numbered-requires
+    stream-numbered-requires-2
     loop-holds
-    zone-at-requires
+    mul-z
+    element-copy-out-z
+    no-zone-requires
     zone-entry-requires
     larger-requires
     add-i

@@ -1,15 +1,8 @@
 -- `junction_figures::zone_entry` meets its contract: the tests say on which side of the zone each stream stands.
 use borrow.Author.Needs.{needs}
 use mathlib.Core.Path.{sym, _∙_}
-use Rattle.junction_figures.specs.Figures.{zoneEntry}
 use Rattle.junction_figures.proofs.zone_entry.Statement.{statement}
 use Rattle.junction_figures.proofs.zone_entry.Tie as tie
-
-stream-numbered-requires : tie.Need-stream-numbered-requires
-stream-numbered-requires c κs = search needs
-
-stream-numbered-requires-2 : tie.Need-stream-numbered-requires-2
-stream-numbered-requires-2 c κs = search needs
 
 forward-requires : tie.Need-forward-requires
 forward-requires c κs = search needs
@@ -18,8 +11,7 @@ entry-requires : tie.Need-entry-requires
 entry-requires c κs = search needs
 
 returns : tie.Need-returns
-unfolding zoneEntry
-returns c = simp (sym (c .before .before .forward .ensures) ∙ c .before .if1 .taken, c .entry .ensures, c .before .before .before .stream-numbered2 .ensures, c .before .before .before .before .stream-numbered .ensures)
+returns c = simp (sym (c .before .before .forward .ensures) ∙ c .before .if1 .taken, c .entry .ensures)
 
 backward-requires : tie.Need-backward-requires
 backward-requires c κs = search needs
@@ -28,19 +20,15 @@ entry-requires-2 : tie.Need-entry-requires-2
 entry-requires-2 c κs = search needs
 
 returns-2 : tie.Need-returns-2
-unfolding zoneEntry
-returns-2 c = simp (sym (c .before .before .before .before .forward .ensures) ∙ c .before .before .before .if1 .left, sym (c .before .before .backward .ensures) ∙ c .before .if2 .taken, c .entry2 .ensures, c .before .before .before .before .before .stream-numbered2 .ensures, c .before .before .before .before .before .before .stream-numbered .ensures)
+returns-2 c = simp (sym (c .before .before .before .before .forward .ensures) ∙ c .before .before .before .if1 .left, sym (c .before .before .backward .ensures) ∙ c .before .if2 .taken, c .entry2 .ensures)
 
 returns-3 : tie.Need-returns-3
-unfolding zoneEntry
 returns-3 c = simp (sym (c .before .before .before .forward .ensures) ∙ c .before .before .if1 .left, sym (c .before .backward .ensures) ∙ c .if2 .left)
 
 pub zone-entry-spec : {M : Type 1} → statement M
 zone-entry-spec =
     tie.close
     (tie.spec
-    stream-numbered-requires
-    stream-numbered-requires-2
     forward-requires
     entry-requires
     returns

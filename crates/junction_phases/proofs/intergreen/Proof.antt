@@ -1,11 +1,13 @@
 -- `junction_phases::intergreen` meets its contract.
 use borrow.Author.Needs.{needs}
-use Rattle.junction_phases.specs.JunctionPhases.{intergreen}
+use native.Mathlib.Omega.{arith}
+use Rattle.junction_phases.specs.JunctionPhases.{nextPhase, intergreen}
+use Rattle.junction_phases.specs.Placed.{few-phases}
 use Rattle.junction_phases.proofs.intergreen.Statement.{statement}
 use Rattle.junction_phases.proofs.intergreen.Tie as tie
 
-next-phase-requires : tie.Need-next-phase-requires
-next-phase-requires c κs = search needs
+following-requires : tie.Need-following-requires
+following-requires c κs = omega (arith, c .pre .1 .1, few-phases (c .args .j))
 
 phase-entry-requires : tie.Need-phase-entry-requires
 phase-entry-requires c κs = search needs
@@ -14,9 +16,9 @@ larger-requires : tie.Need-larger-requires
 larger-requires c κs = search needs
 
 returns : tie.Need-returns
-unfolding intergreen
-returns c = simp (c .larger .ensures, c .before .phase-entry .ensures, c .before .before .next-phase .ensures)
+unfolding intergreen nextPhase
+returns c = simp (c .larger .ensures, c .before .phase-entry .ensures, c .before .before .following .ensures, c .before .before .before .pre .1 .1)
 
 pub intergreen-spec : {M : Type 1} → statement M
 intergreen-spec =
-    tie.close (tie.spec next-phase-requires phase-entry-requires larger-requires returns)
+    tie.close (tie.spec following-requires phase-entry-requires larger-requires returns)

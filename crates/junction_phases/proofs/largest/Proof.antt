@@ -1,24 +1,37 @@
 -- `junction_phases::largest` meets its contract: the invariant is that the most so far is the largest of those passed.
-use Prim.Native.Nat.{_+_, _-_, _≤_}
+use Prim.Native.Nat.{_-_, _≤_}
 use mathlib.Core.Path.{_≡_, sym, _∙_, ap}
 use native.Mathlib.Nat.{le-antisymm}
 use native.Mathlib.Omega.{arith}
+use lib.ListN.{getD}
 use Rattle.laws.specs.Largest.{largestOf, largest-none, largest-next}
-use Rattle.junction_phases.specs.JunctionPhases.{figure, largest}
+use Rattle.questions.specs.Blank.{noStream}
+use Rattle.tables.specs.Tables.{noLoad}
+use Rattle.junction_phases.specs.Tabled.{figureBy, largestBy}
 use Rattle.junction_phases.proofs.largest.Statement.{statement}
 use Rattle.junction_phases.proofs.largest.Tie as tie
 
 abbrev Inv-loop : tie.InvT-loop
-Inv-loop j what n most₀ i₀ most i = (i ≤ j .held .streams) × (most ≡ largestOf (λ k. figure j what (k + 1)) i)
+Inv-loop n what streams loads most₀ i₀ most i =
+    (i ≤ n) × (most ≡ largestOf (λ k. figureBy (getD streams k noStream) (getD (loads .of) k noLoad) what) i)
 
 abbrev μ-loop : tie.MeasureT-loop
-μ-loop j what n most₀ i₀ most i = j .held .streams - i
+μ-loop n what streams loads most₀ i₀ most i = n - i
 
 loop-holds : tie.Need-loop-holds Inv-loop μ-loop
 loop-holds c = (omega arith, sym (largest-none _))
 
-add-figure : tie.Need-add-figure Inv-loop μ-loop
-add-figure c = omega arith
+mul-figure : tie.Need-mul-figure Inv-loop μ-loop
+mul-figure c = omega (arith, c .before .before .pre)
+
+array-copy-out-figure : tie.Need-array-copy-out-figure Inv-loop μ-loop
+array-copy-out-figure c = omega (arith, c .before .before .pre)
+
+mul-figure-2 : tie.Need-mul-figure-2 Inv-loop μ-loop
+mul-figure-2 c = omega (arith, c .before .before .before .pre)
+
+element-copy-out-figure : tie.Need-element-copy-out-figure Inv-loop μ-loop
+element-copy-out-figure c = omega (arith, c .before .before .before .pre)
 
 figure-requires : tie.Need-figure-requires Inv-loop μ-loop
 figure-requires c κs = tt
@@ -34,13 +47,11 @@ loop-less c = omega arith
 
 loop-again : tie.Need-loop-again Inv-loop μ-loop
 loop-again c =
-    let l = c .before .before .before .loop in (
-      omega arith,
-      simp (c .larger .ensures, c .before .figure .ensures, l .inv .1, largest-next),
-    )
+    let l = c .before .before .before .before .before .loop in
+    (omega arith, simp (c .larger .ensures, c .before .figure .ensures, l .inv .1, largest-next))
 
 returns : tie.Need-returns Inv-loop μ-loop
-unfolding largest
+unfolding largestBy
 returns c = let l = c .before .loop in l .inv .1 ∙ ap (largestOf _) (le-antisymm (l .inv .0) (c .loop-test .left))
 
 pub largest-spec : {M : Type 1} → statement M
@@ -50,7 +61,10 @@ largest-spec =
     Inv-loop
     μ-loop
     loop-holds
-    add-figure
+    mul-figure
+    array-copy-out-figure
+    mul-figure-2
+    element-copy-out-figure
     figure-requires
     larger-requires
     add-i

@@ -1,6 +1,7 @@
 -- `junction_phases::phase_count` meets its contract.
 use borrow.Author.Needs.{needs}
 use Rattle.junction_phases.specs.JunctionPhases.{phaseCount}
+use Rattle.junction_phases.specs.Tabled.{largest-tabled}
 use Rattle.junction_phases.proofs.phase_count.Statement.{statement}
 use Rattle.junction_phases.proofs.phase_count.Tie as tie
 
@@ -12,7 +13,7 @@ at-most-six-requires c κs = search needs
 
 returns : tie.Need-returns
 unfolding phaseCount
-returns c = (simp (c .at-most-six .ensures .0, c .before .largest .ensures), c .at-most-six .ensures .1)
+returns c = let s = c .before .before .before in (simp (c .at-most-six .ensures .0, c .before .largest .ensures, s .pre .1, largest-tabled (s .args .j) (s .pre .0)), c .at-most-six .ensures .1)
 
 pub phase-count-spec : {M : Type 1} → statement M
 phase-count-spec = tie.close (tie.spec largest-requires at-most-six-requires returns)

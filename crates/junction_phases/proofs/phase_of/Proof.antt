@@ -1,6 +1,7 @@
 -- `junction_phases::phase_of` meets its contract.
 use borrow.Author.Needs.{needs}
 use Rattle.junction_phases.specs.JunctionPhases.{phaseAt}
+use Rattle.junction_phases.specs.Tabled.{largest-tabled}
 use Rattle.junction_phases.proofs.phase_of.Statement.{statement}
 use Rattle.junction_phases.proofs.phase_of.Tie as tie
 
@@ -21,7 +22,7 @@ largest-requires-3 c κs = search needs
 
 returns : tie.Need-returns
 unfolding phaseAt
-returns c = simp (c .largest3 .ensures, c .before .intergreen .ensures, c .before .before .largest2 .ensures, c .before .before .before .largest .ensures)
+returns c = let s = c .before .before .before .before .before in simp (c .largest3 .ensures, c .before .intergreen .ensures, c .before .before .largest2 .ensures, c .before .before .before .largest .ensures, s .pre .1 .0, largest-tabled (s .args .j) (s .pre .0))
 
 pub phase-of-spec : {M : Type 1} → statement M
 phase-of-spec =

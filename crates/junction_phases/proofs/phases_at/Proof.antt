@@ -11,14 +11,14 @@ use Rattle.junction_phases.proofs.phases_at.Statement.{statement}
 use Rattle.junction_phases.proofs.phases_at.Tie as tie
 
 abbrev Inv-loop : tie.InvT-loop
-Inv-loop j t count q₀ i₀ q i =
+Inv-loop j loads conflicts t count q₀ i₀ q i =
     (i ≤ count) × (q ≡ record { count = phaseCount j; of = filled (phaseAt j t) (replicate 6 noPhase) i })
 
 abbrev μ-loop : tie.MeasureT-loop
-μ-loop j t count q₀ i₀ q i = count - i
+μ-loop j loads conflicts t count q₀ i₀ q i = count - i
 
 phase-count-requires : tie.Need-phase-count-requires Inv-loop μ-loop
-phase-count-requires c κs = tt
+phase-count-requires c κs = (c .pre .0, c .pre .1 .0)
 
 no-phase-requires : tie.Need-no-phase-requires Inv-loop μ-loop
 no-phase-requires c κs = tt
@@ -30,10 +30,13 @@ cast-phase-of : tie.Need-cast-phase-of Inv-loop μ-loop
 cast-phase-of c = omega (arith, c .before .before .before .phase-count .ensures .1)
 
 phase-of-requires : tie.Need-phase-of-requires Inv-loop μ-loop
-phase-of-requires c κs = omega (arith, c .before .before .before .phase-count .ensures .1)
+phase-of-requires c κs =
+    let s = c .before .before .before .before in
+    let count = c .before .before .before .phase-count .ensures in
+    (s .pre .0, (s .pre .1 .0, (s .pre .1 .1, (count .0, omega (arith, count .1)))))
 
-mul-t11 : tie.Need-mul-t11 Inv-loop μ-loop
-mul-t11 c = omega (arith, c .before .before .before .before .phase-count .ensures .1)
+mul-t13 : tie.Need-mul-t13 Inv-loop μ-loop
+mul-t13 c = omega (arith, c .before .before .before .before .phase-count .ensures .1)
 
 element-set-from-q : tie.Need-element-set-from-q Inv-loop μ-loop
 element-set-from-q c = omega (arith, c .before .before .before .before .phase-count .ensures .1)
@@ -64,7 +67,7 @@ phases-at-spec =
     loop-holds
     cast-phase-of
     phase-of-requires
-    mul-t11
+    mul-t13
     element-set-from-q
     add-i
     loop-less

@@ -3,29 +3,33 @@ use Prim.Native.Nat.{_-_, _≤_}
 use mathlib.Core.Path.{_≡_, refl, sym, _∙_}
 use native.Mathlib.Omega.{arith}
 use lib.Dec.{ltb}
+use lib.ListN.{getD}
 use borrow.Author.Tests.{lt-ltb, le-ltb}
 use Rattle.laws.specs.Search.{firstBelow, first-found, first-next, first-out}
-use Rattle.phases.specs.Phases.{greenAt, firstShort}
+use Rattle.phases.specs.Phases.{noSlot, firstShortIn}
 use Rattle.phases.proofs.first_short.Statement.{statement}
 use Rattle.phases.proofs.first_short.Tie as tie
 
 abbrev Inv-loop : tie.InvT-loop
-Inv-loop q s n i₀ i = (i ≤ q .count) × (firstBelow (λ k. ltb (greenAt q s k) 1) (q .count) i ≡ firstShort q s)
+Inv-loop n slots i₀ i = (i ≤ n) × (firstBelow (λ k. ltb (getD (slots .of) k noSlot .green) 1) n i ≡ firstShortIn slots n)
 
 abbrev μ-loop : tie.MeasureT-loop
-μ-loop q s n i₀ i = q .count - i
+μ-loop n slots i₀ i = n - i
 
 loop-holds : tie.Need-loop-holds Inv-loop μ-loop
-unfolding firstShort
+unfolding firstShortIn
 loop-holds c = (omega arith, refl)
 
-green-at-requires : tie.Need-green-at-requires Inv-loop μ-loop
-green-at-requires c κs = omega arith
+mul-slot : tie.Need-mul-slot Inv-loop μ-loop
+mul-slot c = omega (arith, c .before .before .pre)
+
+element-copy-out-slot : tie.Need-element-copy-out-slot Inv-loop μ-loop
+element-copy-out-slot c = omega (arith, c .before .before .pre)
 
 returns : tie.Need-returns Inv-loop μ-loop
 returns c =
-    let l = c .before .before .before .loop in
-    sym (first-found _ _ (l .i) (c .before .before .loop-test .taken) (lt-ltb _ _ (rw (c .before .green-at .ensures .0) at (c .if1 .taken)))) ∙ l .inv .1
+    let l = c .before .before .before .before .loop in
+    sym (first-found _ _ (l .i) (c .before .before .before .loop-test .taken) (lt-ltb _ _ (c .if1 .taken))) ∙ l .inv .1
 
 add-i : tie.Need-add-i Inv-loop μ-loop
 add-i c = omega arith
@@ -35,10 +39,8 @@ loop-less c = omega arith
 
 loop-again : tie.Need-loop-again Inv-loop μ-loop
 loop-again c =
-    let l = c .before .before .before .loop in (
-      omega arith,
-      sym (first-next _ _ (l .i) (c .before .before .loop-test .taken) (le-ltb _ _ (rw (c .before .green-at .ensures .0) at (c .if1 .left)))) ∙ l .inv .1,
-    )
+    let l = c .before .before .before .before .loop in
+    (omega arith, sym (first-next _ _ (l .i) (c .before .before .before .loop-test .taken) (le-ltb _ _ (c .if1 .left))) ∙ l .inv .1)
 
 returns-2 : tie.Need-returns-2 Inv-loop μ-loop
 returns-2 c = sym (first-out _ _ (c .before .loop .i) (c .loop-test .left)) ∙ c .before .loop .inv .1
@@ -46,4 +48,4 @@ returns-2 c = sym (first-out _ _ (c .before .loop .i) (c .loop-test .left)) ∙ 
 pub first-short-spec : {M : Type 1} → statement M
 first-short-spec =
     tie.close
-    (tie.spec Inv-loop μ-loop loop-holds green-at-requires returns add-i loop-less loop-again returns-2)
+    (tie.spec Inv-loop μ-loop loop-holds mul-slot element-copy-out-slot returns add-i loop-less loop-again returns-2)

@@ -1,11 +1,8 @@
 -- `phases::possible` meets its contract.
 use borrow.Author.Needs.{needs}
-use Rattle.phases.specs.Phases.{possible}
+use Rattle.phases.specs.Phases.{sharing, possible, short-tabled}
 use Rattle.phases.proofs.possible.Statement.{statement}
 use Rattle.phases.proofs.possible.Tie as tie
-
-shared-out-requires : tie.Need-shared-out-requires
-shared-out-requires c κs = search needs
 
 first-short-requires : tie.Need-first-short-requires
 first-short-requires c κs = search needs
@@ -15,8 +12,9 @@ lost-time-requires c κs = search needs
 
 returns : tie.Need-returns
 unfolding possible
-returns c = simp (c .before .lost-time .ensures, c .before .before .first-short .ensures, c .before .before .before .shared-out .ensures)
+returns c =
+    let s = c .before .before .before in
+    simp (c .before .lost-time .ensures, c .before .before .first-short .ensures, s .pre .1, short-tabled (s .args .q) (sharing (s .args .q) (s .args .t)) (s .pre .0))
 
 pub possible-spec : {M : Type 1} → statement M
-possible-spec =
-    tie.close (tie.spec shared-out-requires first-short-requires lost-time-requires returns)
+possible-spec = tie.close (tie.spec first-short-requires lost-time-requires returns)

@@ -1,24 +1,21 @@
 -- `planning::find_cycle` meets its contract: the first length is at most 181.
 use mathlib.Core.Path.{_∙_}
-use borrow.Author.Needs.{needs}
 use Rattle.phases.specs.First.{first-length-range}
 use Rattle.planning.specs.Planning.{firstTried}
 use Rattle.planning.proofs.find_cycle.Statement.{statement}
 use Rattle.planning.proofs.find_cycle.Tie as tie
 
-phases-at-requires : tie.Need-phases-at-requires
-phases-at-requires c κs = search needs
-
 first-tried-requires : tie.Need-first-tried-requires
-first-tried-requires c κs = search needs
+first-tried-requires c κs = (c .pre .0, (c .pre .1 .0, c .pre .1 .1 .1))
 
 search-requires : tie.Need-search-requires
 unfolding firstTried
-search-requires c κs = (c .before .before .pre, (c .before .phases-at .ensures, rw (c .first-tried .ensures) (first-length-range _ _ _ .1)))
+search-requires c κs =
+    let pre = c .before .pre in
+    (pre .0, (pre .1 .0, (pre .1 .1 .0, (pre .1 .1 .1, rw (c .first-tried .ensures) (first-length-range _ _ _ .1)))))
 
 returns : tie.Need-returns
 returns c = c .search .ensures ∙ rw (c .before .first-tried .ensures)
 
 pub find-cycle-spec : {M : Type 1} → statement M
-find-cycle-spec =
-    tie.close (tie.spec phases-at-requires first-tried-requires search-requires returns)
+find-cycle-spec = tie.close (tie.spec first-tried-requires search-requires returns)

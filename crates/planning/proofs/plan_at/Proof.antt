@@ -3,19 +3,23 @@ use Prim.Native.Nat.{_+_, _-_, _≤_}
 use mathlib.Core.Path.{_≡_, _∙_}
 use native.Mathlib.Nat.{le-antisymm}
 use native.Mathlib.Omega.{arith}
-use lib.ListN.{replicate}
+use borrow.Author.Needs.{needs}
+use lib.ListN.{getD, replicate}
 use Rattle.laws.specs.Filled.{filled, filled-none, filled-next}
+use Rattle.laws.specs.Ranges.{Between}
+use Rattle.questions.specs.Blank.{noStream}
 use Rattle.questions.specs.Questions.{streamNumbered}
-use Rattle.phases.specs.Phases.{sharing}
+use Rattle.tables.specs.Places.{stream-place}
+use Rattle.phases.specs.Phases.{noSlot, slotAt, slot-place, sharing}
 use Rattle.junction_phases.specs.JunctionPhases.{phasesAt}
 use Rattle.plans.specs.Plans.{noGreen}
-use Rattle.planning.specs.Lengths.{small}
+use Rattle.planning.specs.Lengths.{stream-phase, small}
 use Rattle.planning.specs.Planning.{phaseGreen, planAt}
 use Rattle.planning.proofs.plan_at.Statement.{statement}
 use Rattle.planning.proofs.plan_at.Tie as tie
 
 abbrev Inv-loop : tie.InvT-loop
-Inv-loop j q t streams s p₀ i₀ p i =
+Inv-loop t j slots streams p₀ i₀ p i =
     (i ≤ j .held .streams)
     × (p ≡ record {
       cycle = t;
@@ -23,10 +27,7 @@ Inv-loop j q t streams s p₀ i₀ p i =
     })
 
 abbrev μ-loop : tie.MeasureT-loop
-μ-loop j q t streams s p₀ i₀ p i = j .held .streams - i
-
-shared-out-requires : tie.Need-shared-out-requires Inv-loop μ-loop
-shared-out-requires c κs = tt
+μ-loop t j slots streams p₀ i₀ p i = j .held .streams - i
 
 no-green-requires : tie.Need-no-green-requires Inv-loop μ-loop
 no-green-requires c κs = tt
@@ -34,25 +35,55 @@ no-green-requires c κs = tt
 loop-holds : tie.Need-loop-holds Inv-loop μ-loop
 loop-holds c = (omega arith, simp (c .no-green .ensures, filled-none))
 
-add-stream-numbered : tie.Need-add-stream-numbered Inv-loop μ-loop
-add-stream-numbered c = omega arith
+mul-stream : tie.Need-mul-stream Inv-loop μ-loop
+mul-stream c = omega (arith, c .before .before .before .pre .0 .fields .fewStreams)
 
-stream-numbered-requires : tie.Need-stream-numbered-requires Inv-loop μ-loop
-stream-numbered-requires c κs = tt
+element-copy-out-stream : tie.Need-element-copy-out-stream Inv-loop μ-loop
+element-copy-out-stream c = omega (arith, c .before .before .before .pre .0 .fields .fewStreams)
 
-phase-green-requires : tie.Need-phase-green-requires Inv-loop μ-loop
-phase-green-requires c κs =
-    let pre = c .before .before .before .before .before .pre in
-    let a = c .before .before .before .before .before .args in
-    let l = c .before .before .loop in
-    rw (c .stream-numbered .ensures, c .before .before .before .before .shared-out .ensures, pre .1 .0)
-    (small (a .j) (pre .0) (a .t) (rw (pre .1 .0) at (pre .1 .1 .0)) (pre .1 .1 .1) (l .i + 1) (omega arith))
+-- the stream's phase has one of the six places
+place : (c : tie.After-struct-known Inv-loop μ-loop) → Between 1 6 (getD (c .before .before .before .before .before .args .t1 .streams) (c .before .before .before .loop .i) noStream .phase)
+place c =
+    let s = c .before .before .before .before .before in
+    let i = c .before .before .before .loop .i in
+    let low = c .before .before .loop-test .taken in
+    rw (stream-place (s .args .t1) (s .pre .0) i low) (stream-phase (s .args .t1) (s .pre .0) (s .args .t) (i + 1) (omega arith))
 
-mul-t12 : tie.Need-mul-t12 Inv-loop μ-loop
-mul-t12 c = omega (arith, c .before .before .before .before .before .before .pre .0 .fields .fewStreams)
+cast-green-of : tie.Need-cast-green-of Inv-loop μ-loop
+cast-green-of c = search needs
+
+sub-green-of : tie.Need-sub-green-of Inv-loop μ-loop
+sub-green-of c = place c .0
+
+mul-green-of : tie.Need-mul-green-of Inv-loop μ-loop
+mul-green-of c = omega (arith, place c)
+
+element-copy-out-green-of : tie.Need-element-copy-out-green-of Inv-loop μ-loop
+element-copy-out-green-of c = omega (arith, place c)
+
+-- what stands there is its start and green
+slot : (c : tie.After-green-of-arg Inv-loop μ-loop)
+    → getD (c .before .before .before .before .before .before .args .t3 .of) (getD (c .before .before .before .before .before .before .args .t1 .streams) (c .before .before .before .before .loop .i) noStream .phase - 1) noSlot
+    ≡ slotAt (phasesAt (c .before .before .before .before .before .before .args .t1) (c .before .before .before .before .before .before .args .t)) (sharing (phasesAt (c .before .before .before .before .before .before .args .t1) (c .before .before .before .before .before .before .args .t)) (c .before .before .before .before .before .before .args .t)) (streamNumbered (c .before .before .before .before .before .before .args .t1) (c .before .before .before .before .loop .i + 1) .phase - 1)
+slot c =
+    let s = c .before .before .before .before .before .before in
+    let i = c .before .before .before .before .loop .i in
+    let low = c .before .before .before .loop-test .taken in
+    rw (s .pre .1 .1 .0, s .pre .1 .0, stream-place (s .args .t1) (s .pre .0) i low)
+    (slot-place _ _ _ (omega (arith, stream-phase (s .args .t1) (s .pre .0) (s .args .t) (i + 1) (omega arith))))
+
+green-of-requires : tie.Need-green-of-requires Inv-loop μ-loop
+green-of-requires c κs =
+    let s = c .before .before .before .before .before .before in
+    let pre = s .pre in
+    rw (slot c)
+    (small (s .args .t1) (pre .0) (s .args .t) (rw (pre .1 .0) at (pre .1 .1 .1 .0)) (pre .1 .1 .1 .1) (c .before .before .before .before .loop .i + 1) (omega arith))
+
+mul-t24 : tie.Need-mul-t24 Inv-loop μ-loop
+mul-t24 c = omega (arith, c .before .before .before .before .before .before .before .pre .0 .fields .fewStreams)
 
 element-set-from-p : tie.Need-element-set-from-p Inv-loop μ-loop
-element-set-from-p c = omega (arith, c .before .before .before .before .before .before .pre .0 .fields .fewStreams)
+element-set-from-p c = omega (arith, c .before .before .before .before .before .before .before .pre .0 .fields .fewStreams)
 
 add-i : tie.Need-add-i Inv-loop μ-loop
 add-i c = omega arith
@@ -61,10 +92,8 @@ loop-less : tie.Need-loop-less Inv-loop μ-loop
 loop-less c = omega arith
 
 loop-again : tie.Need-loop-again Inv-loop μ-loop
-loop-again c = (
-  omega arith,
-  simp (c .phase-green .ensures, c .before .stream-numbered .ensures, c .before .before .before .before .before .shared-out .ensures, c .before .before .before .before .before .before .pre .1 .0, c .before .before .before .loop .inv .1, filled-next),
-)
+unfolding phaseGreen
+loop-again c = (omega arith, simp (c .green-of .ensures, slot (c .before), c .before .before .before .before .before .loop .inv .1, filled-next))
 
 returns : tie.Need-returns Inv-loop μ-loop
 unfolding planAt
@@ -78,13 +107,16 @@ plan-at-spec =
     (tie.spec
     Inv-loop
     μ-loop
-    shared-out-requires
     no-green-requires
     loop-holds
-    add-stream-numbered
-    stream-numbered-requires
-    phase-green-requires
-    mul-t12
+    mul-stream
+    element-copy-out-stream
+    cast-green-of
+    sub-green-of
+    mul-green-of
+    element-copy-out-green-of
+    green-of-requires
+    mul-t24
     element-set-from-p
     add-i
     loop-less

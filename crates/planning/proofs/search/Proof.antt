@@ -6,7 +6,9 @@ use mathlib.Core.Path.{_≡_, refl, sym, _∙_, ap, subst}
 use native.Mathlib.Nat.{le-antisymm}
 use native.Mathlib.Omega.{arith}
 use borrow.Author.Tests.{not-true, not-false}
-use Rattle.phases.specs.Phases.{possible}
+use Rattle.questions.specs.Questions.{zone-numbered-at}
+use Rattle.tables.specs.Places.{stream-place, load-place, conflict-place}
+use Rattle.phases.specs.Phases.{slotsOf, possible}
 use Rattle.junction_phases.specs.JunctionPhases.{phasesAt}
 use Rattle.junction_phases.specs.Placed.{few-phases}
 use Rattle.rules.specs.Rules.{needMet, capacityMet, zoneMet}
@@ -15,45 +17,54 @@ use Rattle.planning.proofs.search.Statement.{statement}
 use Rattle.planning.proofs.search.Tie as tie
 
 abbrev Inv-loop : tie.InvT-loop
-Inv-loop j fixed first streams zones t₀ tried p n₀ t n =
+Inv-loop fixed first j loads conflicts streams zones t₀ tried p n₀ t n =
     (t ≡ t₀) × (n ≤ j .held .streams) × Trying j first t tried p × Met (needMet j p) n
 
 abbrev μ-loop : tie.MeasureT-loop
-μ-loop j fixed first streams zones t₀ tried p n₀ t n = j .held .streams - n
+μ-loop fixed first j loads conflicts streams zones t₀ tried p n₀ t n = j .held .streams - n
 
 abbrev Inv-loop2 : tie.InvT-loop2
-Inv-loop2 j fixed first streams zones t₀ tried p n c₀ t c =
+Inv-loop2 fixed first j loads conflicts streams zones t₀ tried p n c₀ t c =
     (t ≡ t₀) × (c ≤ j .held .streams) × Trying j first t tried p × Met (needMet j p) (j .held .streams) × Met (capacityMet j p) c
 
 abbrev μ-loop2 : tie.MeasureT-loop2
-μ-loop2 j fixed first streams zones t₀ tried p n c₀ t c = j .held .streams - c
+μ-loop2 fixed first j loads conflicts streams zones t₀ tried p n c₀ t c = j .held .streams - c
 
 abbrev Inv-loop3 : tie.InvT-loop3
-Inv-loop3 j fixed first streams zones t₀ tried p n c z₀ t z =
+Inv-loop3 fixed first j loads conflicts streams zones t₀ tried p n c z₀ t z =
     (t ≡ t₀) × (z ≤ j .held .zones) × Trying j first t tried p × Met (needMet j p) (j .held .streams)
     × Met (capacityMet j p) (j .held .streams) × Met (zoneMet j p) z
 
 abbrev μ-loop3 : tie.MeasureT-loop3
-μ-loop3 j fixed first streams zones t₀ tried p n c z₀ t z = j .held .zones - z
+μ-loop3 fixed first j loads conflicts streams zones t₀ tried p n c z₀ t z = j .held .zones - z
 
 abbrev Inv-search : tie.InvT-search
-Inv-search j fixed first streams zones t₀ tried₀ t tried = Rest j first t tried
+Inv-search fixed first j loads conflicts streams zones t₀ tried₀ t tried = Rest j first t tried
 
 abbrev μ-search : tie.MeasureT-search
-μ-search j fixed first streams zones t₀ tried₀ t tried = 181 - t
+μ-search fixed first j loads conflicts streams zones t₀ tried₀ t tried = 181 - t
 
 search-holds : tie.Need-search-holds Inv-loop μ-loop Inv-loop2 μ-loop2 Inv-loop3 μ-loop3 Inv-search μ-search
-search-holds c = rest-begins (c .args .j) (c .args .first) (c .pre .1 .1)
+search-holds c = rest-begins (c .args .t1) (c .args .first) (c .pre .1 .1 .1 .1)
 
 add-tried : tie.Need-add-tried Inv-loop μ-loop Inv-loop2 μ-loop2 Inv-loop3 μ-loop3 Inv-search μ-search
 add-tried c = omega (arith, c .before .search .inv .count)
 
 at-cycle-requires : tie.Need-at-cycle-requires Inv-loop μ-loop Inv-loop2 μ-loop2 Inv-loop3 μ-loop3 Inv-search μ-search
-at-cycle-requires c κs = c .before .before .pre .1 .0
+at-cycle-requires c κs = let pre = c .before .before .pre in (pre .0, (pre .1 .0, pre .1 .1 .1 .0))
+
+shared-out-requires : tie.Need-shared-out-requires Inv-loop μ-loop Inv-loop2 μ-loop2 Inv-loop3 μ-loop3 Inv-search μ-search
+shared-out-requires c κs = tt
+
+slots-of-requires : tie.Need-slots-of-requires Inv-loop μ-loop Inv-loop2 μ-loop2 Inv-loop3 μ-loop3 Inv-search μ-search
+slots-of-requires c κs = tt
 
 possible-requires : tie.Need-possible-requires Inv-loop μ-loop Inv-loop2 μ-loop2 Inv-loop3 μ-loop3 Inv-search μ-search
 unfolding phasesAt
-possible-requires c κs = rw (c .at-cycle .ensures) (few-phases (c .before .before .before .args .j))
+possible-requires c κs = (
+  rw (c .before .before .at-cycle .ensures) (few-phases (c .before .before .before .before .before .args .t1)),
+  c .slots-of .ensures ∙ ap (slotsOf _) (c .before .shared-out .ensures),
+)
 
 add-t : tie.Need-add-t Inv-loop μ-loop Inv-loop2 μ-loop2 Inv-loop3 μ-loop3 Inv-search μ-search
 add-t c = omega arith
@@ -63,58 +74,73 @@ search-less c = omega arith
 
 search-again : tie.Need-search-again Inv-loop μ-loop Inv-loop2 μ-loop2 Inv-loop3 μ-loop3 Inv-search μ-search
 search-again c =
-    let l = c .before .before .before .before .search in
-    rest-impossible (c .before .before .before .before .before .args .j) (c .before .before .before .before .before .args .first) (l .t) (l .tried) (l .inv) (c .before .before .before .if1 .left)
-    (not-true _ (ap not (sym (c .before .possible .ensures ∙ ap (λ q. possible q (c .before .before .before .before .search .t)) (c .before .before .at-cycle .ensures))) ∙ c .if2 .taken))
+    let l = c .before .before .before .before .before .before .search in
+    rest-impossible (c .before .before .before .before .before .before .before .args .t1) (c .before .before .before .before .before .before .before .args .first) (l .t) (l .tried) (l .inv) (c .before .before .before .before .before .if1 .left)
+    (not-true _ (ap not (sym (c .before .possible .ensures ∙ ap (λ q. possible q (c .before .before .before .before .before .before .search .t)) (c .before .before .before .before .at-cycle .ensures))) ∙ c .if2 .taken))
 
 plan-at-requires : tie.Need-plan-at-requires Inv-loop μ-loop Inv-loop2 μ-loop2 Inv-loop3 μ-loop3 Inv-search μ-search
-plan-at-requires c κs =
-    let e = c .before .before .at-cycle .ensures in (
-      c .before .before .before .before .before .pre .0,
-      (e, (not-false _ (ap not (sym (c .before .possible .ensures)) ∙ c .if2 .left), omega arith)),
-    )
+plan-at-requires c κs = (
+  c .before .before .before .before .before .before .before .pre .0,
+  (c .before .before .before .before .at-cycle .ensures, (c .before .before .slots-of .ensures ∙ ap (slotsOf _) (c .before .before .before .shared-out .ensures), (not-false _ (ap not (sym (c .before .possible .ensures)) ∙ c .if2 .left), omega arith))),
+)
 
 loop-holds : tie.Need-loop-holds Inv-loop μ-loop Inv-loop2 μ-loop2 Inv-loop3 μ-loop3 Inv-search μ-search
 loop-holds c =
-    let l = c .before .before .before .before .before .search in (
+    let l = c .before .before .before .before .before .before .before .search in (
       refl,
       omega arith,
-      rest-trying (c .before .before .before .before .before .before .args .j) (c .before .before .before .before .before .before .args .first) (l .t) (l .tried) _ (l .inv) (c .before .before .before .before .if1 .left)
-          (not-false _ (ap not (sym (c .before .before .possible .ensures ∙ ap (λ q. possible q (c .before .before .before .before .before .search .t)) (c .before .before .before .at-cycle .ensures))) ∙ c .before .if2 .left)) (c .plan-at .ensures),
+      rest-trying (c .before .before .before .before .before .before .before .before .args .t1) (c .before .before .before .before .before .before .before .before .args .first) (l .t) (l .tried) _ (l .inv) (c .before .before .before .before .before .before .if1 .left)
+          (not-false _ (ap not (sym (c .before .before .possible .ensures ∙ ap (λ q. possible q (c .before .before .before .before .before .before .before .search .t)) (c .before .before .before .before .before .at-cycle .ensures))) ∙ c .before .if2 .left)) (c .plan-at .ensures),
       met-none _,
     )
 
-add-need-met : tie.Need-add-need-met Inv-loop μ-loop Inv-loop2 μ-loop2 Inv-loop3 μ-loop3 Inv-search μ-search
-add-need-met c = omega arith
+mul-need-met : tie.Need-mul-need-met Inv-loop μ-loop Inv-loop2 μ-loop2 Inv-loop3 μ-loop3 Inv-search μ-search
+mul-need-met c = omega (arith, c .before .before .before .before .before .before .before .before .before .before .pre .0 .fields .fewStreams)
+
+element-copy-out-need-met : tie.Need-element-copy-out-need-met Inv-loop μ-loop Inv-loop2 μ-loop2 Inv-loop3 μ-loop3 Inv-search μ-search
+element-copy-out-need-met c = omega (arith, c .before .before .before .before .before .before .before .before .before .before .pre .0 .fields .fewStreams)
+
+add-green-of : tie.Need-add-green-of Inv-loop μ-loop Inv-loop2 μ-loop2 Inv-loop3 μ-loop3 Inv-search μ-search
+add-green-of c = omega arith
+
+green-of-requires : tie.Need-green-of-requires Inv-loop μ-loop Inv-loop2 μ-loop2 Inv-loop3 μ-loop3 Inv-search μ-search
+green-of-requires c κs = tt
 
 need-met-requires : tie.Need-need-met-requires Inv-loop μ-loop Inv-loop2 μ-loop2 Inv-loop3 μ-loop3 Inv-search μ-search
 need-met-requires c κs = tt
 
+need-here : (c : tie.After-need-met Inv-loop μ-loop Inv-loop2 μ-loop2 Inv-loop3 μ-loop3 Inv-search μ-search)
+    → c .need-met .result ≡ needMet (c .before .before .before .before .before .before .before .before .before .before .before .before .before .args .t1) (c .before .before .before .before .before .plan-at .result) (c .before .before .before .before .loop .n + 1)
+unfolding needMet
+need-here c =
+    let s = c .before .before .before .before .before .before .before .before .before .before .before .before .before in
+    simp (c .need-met .ensures, c .before .green-of .ensures, stream-place (s .args .t1) (s .pre .0) (c .before .before .before .before .loop .n) (c .before .before .before .loop-test .taken))
+
 add-t-2 : tie.Need-add-t-2 Inv-loop μ-loop Inv-loop2 μ-loop2 Inv-loop3 μ-loop3 Inv-search μ-search
-add-t-2 c = omega (arith, c .before .before .before .loop .inv .2 .high)
+add-t-2 c = omega (arith, c .before .before .before .before .before .loop .inv .2 .high)
 
 search-less-2 : tie.Need-search-less-2 Inv-loop μ-loop Inv-loop2 μ-loop2 Inv-loop3 μ-loop3 Inv-search μ-search
-search-less-2 c = omega (arith, c .before .before .before .loop .inv .0, c .before .before .before .loop .inv .2 .high)
+search-less-2 c = omega (arith, c .before .before .before .before .before .loop .inv .0, c .before .before .before .before .before .loop .inv .2 .high)
 
 search-again-2 : tie.Need-search-again-2 Inv-loop μ-loop Inv-loop2 μ-loop2 Inv-loop3 μ-loop3 Inv-search μ-search
 search-again-2 c =
-    let l = c .before .before .before .loop in
-    need-broken (c .before .before .before .before .before .before .before .before .before .before .args .j) (c .before .before .before .before .before .before .before .before .before .before .args .first) (l .t) _ _ (l .inv .2) (l .n + 1) (omega arith)
-    (not-true _ (ap not (sym (c .before .need-met .ensures)) ∙ c .if3 .taken))
+    let l = c .before .before .before .before .before .loop in
+    need-broken (c .before .before .before .before .before .before .before .before .before .before .before .before .before .before .args .t1) (c .before .before .before .before .before .before .before .before .before .before .before .before .before .before .args .first) (l .t) _ _ (l .inv .2) (l .n + 1) (omega arith)
+    (not-true _ (ap not (sym (need-here (c .before))) ∙ c .if3 .taken))
 
 add-n : tie.Need-add-n Inv-loop μ-loop Inv-loop2 μ-loop2 Inv-loop3 μ-loop3 Inv-search μ-search
-add-n c = omega arith
+add-n c = omega (arith, c .before .before .before .before .loop-test .taken, c .before .before .before .before .before .before .before .before .before .before .before .before .before .before .pre .0 .fields .fewStreams)
 
 loop-less : tie.Need-loop-less Inv-loop μ-loop Inv-loop2 μ-loop2 Inv-loop3 μ-loop3 Inv-search μ-search
 loop-less c = omega arith
 
 loop-again : tie.Need-loop-again Inv-loop μ-loop Inv-loop2 μ-loop2 Inv-loop3 μ-loop3 Inv-search μ-search
 loop-again c =
-    let l = c .before .before .before .loop in (
+    let l = c .before .before .before .before .before .loop in (
       l .inv .0,
       omega arith,
       l .inv .2,
-      met-next _ (l .n) (l .inv .3) (not-false _ (ap not (sym (c .before .need-met .ensures)) ∙ c .if3 .left)),
+      met-next _ (l .n) (l .inv .3) (not-false _ (ap not (sym (need-here (c .before))) ∙ c .if3 .left)),
     )
 
 loop2-holds : tie.Need-loop2-holds Inv-loop μ-loop Inv-loop2 μ-loop2 Inv-loop3 μ-loop3 Inv-search μ-search
@@ -122,38 +148,62 @@ loop2-holds c =
     let l = c .before .loop in
     (refl, omega arith, l .inv .2, subst (Met _) (le-antisymm (l .inv .1) (c .loop-test .left)) (l .inv .3), met-none _)
 
-add-capacity-met : tie.Need-add-capacity-met Inv-loop μ-loop Inv-loop2 μ-loop2 Inv-loop3 μ-loop3 Inv-search μ-search
-add-capacity-met c = omega arith
+mul-capacity-met : tie.Need-mul-capacity-met Inv-loop μ-loop Inv-loop2 μ-loop2 Inv-loop3 μ-loop3 Inv-search μ-search
+mul-capacity-met c = omega (arith, c .before .before .before .before .before .before .before .before .before .before .before .before .pre .0 .fields .fewStreams)
+
+element-copy-out-capacity-met : tie.Need-element-copy-out-capacity-met Inv-loop μ-loop Inv-loop2 μ-loop2 Inv-loop3 μ-loop3 Inv-search μ-search
+element-copy-out-capacity-met c = omega (arith, c .before .before .before .before .before .before .before .before .before .before .before .before .pre .0 .fields .fewStreams)
+
+mul-capacity-met-2 : tie.Need-mul-capacity-met-2 Inv-loop μ-loop Inv-loop2 μ-loop2 Inv-loop3 μ-loop3 Inv-search μ-search
+mul-capacity-met-2 c = omega (arith, c .before .before .before .before .before .before .before .before .before .before .before .before .before .pre .0 .fields .fewStreams)
+
+element-copy-out-capacity-met-2 : tie.Need-element-copy-out-capacity-met-2 Inv-loop μ-loop Inv-loop2 μ-loop2 Inv-loop3 μ-loop3 Inv-search μ-search
+element-copy-out-capacity-met-2 c = omega (arith, c .before .before .before .before .before .before .before .before .before .before .before .before .before .pre .0 .fields .fewStreams)
+
+add-green-of-2 : tie.Need-add-green-of-2 Inv-loop μ-loop Inv-loop2 μ-loop2 Inv-loop3 μ-loop3 Inv-search μ-search
+add-green-of-2 c = omega arith
+
+green-of-requires-2 : tie.Need-green-of-requires-2 Inv-loop μ-loop Inv-loop2 μ-loop2 Inv-loop3 μ-loop3 Inv-search μ-search
+green-of-requires-2 c κs = tt
 
 capacity-met-requires : tie.Need-capacity-met-requires Inv-loop μ-loop Inv-loop2 μ-loop2 Inv-loop3 μ-loop3 Inv-search μ-search
 capacity-met-requires c κs = tt
 
+capacity-here : (c : tie.After-capacity-met Inv-loop μ-loop Inv-loop2 μ-loop2 Inv-loop3 μ-loop3 Inv-search μ-search)
+    → c .capacity-met .result ≡ capacityMet (c .before .before .before .before .before .before .before .before .before .before .before .before .before .before .before .before .args .t1) (c .before .before .before .before .before .before .before .before .plan-at .result) (c .before .before .before .before .before .loop2 .c + 1)
+unfolding capacityMet
+capacity-here c =
+    let s = c .before .before .before .before .before .before .before .before .before .before .before .before .before .before .before .before in
+    let i = c .before .before .before .before .before .loop2 .c in
+    let low = c .before .before .before .before .loop2-test .taken in
+    simp (c .capacity-met .ensures, c .before .green-of2 .ensures, s .pre .1 .0, stream-place (s .args .t1) (s .pre .0) i low, load-place (s .args .t1) (s .pre .0) i low)
+
 add-t-3 : tie.Need-add-t-3 Inv-loop μ-loop Inv-loop2 μ-loop2 Inv-loop3 μ-loop3 Inv-search μ-search
-add-t-3 c = omega (arith, c .before .before .before .loop2 .inv .2 .high)
+add-t-3 c = omega (arith, c .before .before .before .before .before .before .loop2 .inv .2 .high)
 
 search-less-3 : tie.Need-search-less-3 Inv-loop μ-loop Inv-loop2 μ-loop2 Inv-loop3 μ-loop3 Inv-search μ-search
-search-less-3 c = omega (arith, c .before .before .before .loop2 .inv .0, c .before .before .before .loop2 .inv .2 .high, c .before .before .before .before .before .loop .inv .0)
+search-less-3 c = omega (arith, c .before .before .before .before .before .before .loop2 .inv .0, c .before .before .before .before .before .before .loop2 .inv .2 .high, c .before .before .before .before .before .before .before .before .loop .inv .0)
 
 search-again-3 : tie.Need-search-again-3 Inv-loop μ-loop Inv-loop2 μ-loop2 Inv-loop3 μ-loop3 Inv-search μ-search
 search-again-3 c =
-    let l = c .before .before .before .loop2 in
-    capacity-broken (c .before .before .before .before .before .before .before .before .before .before .before .before .args .j) (c .before .before .before .before .before .before .before .before .before .before .before .before .args .first) (l .t) _ _ (l .inv .2) (l .c + 1) (omega arith)
-    (not-true _ (ap not (sym (c .before .capacity-met .ensures)) ∙ c .if4 .taken))
+    let l = c .before .before .before .before .before .before .loop2 in
+    capacity-broken (c .before .before .before .before .before .before .before .before .before .before .before .before .before .before .before .before .before .args .t1) (c .before .before .before .before .before .before .before .before .before .before .before .before .before .before .before .before .before .args .first) (l .t) _ _ (l .inv .2) (l .c + 1) (omega arith)
+    (not-true _ (ap not (sym (capacity-here (c .before))) ∙ c .if4 .taken))
 
 add-c : tie.Need-add-c Inv-loop μ-loop Inv-loop2 μ-loop2 Inv-loop3 μ-loop3 Inv-search μ-search
-add-c c = omega arith
+add-c c = omega (arith, c .before .before .before .before .before .loop2-test .taken, c .before .before .before .before .before .before .before .before .before .before .before .before .before .before .before .before .before .pre .0 .fields .fewStreams)
 
 loop2-less : tie.Need-loop2-less Inv-loop μ-loop Inv-loop2 μ-loop2 Inv-loop3 μ-loop3 Inv-search μ-search
 loop2-less c = omega arith
 
 loop2-again : tie.Need-loop2-again Inv-loop μ-loop Inv-loop2 μ-loop2 Inv-loop3 μ-loop3 Inv-search μ-search
 loop2-again c =
-    let l = c .before .before .before .loop2 in (
+    let l = c .before .before .before .before .before .before .loop2 in (
       l .inv .0,
       omega arith,
       l .inv .2,
       l .inv .3,
-      met-next _ (l .c) (l .inv .4) (not-false _ (ap not (sym (c .before .capacity-met .ensures)) ∙ c .if4 .left)),
+      met-next _ (l .c) (l .inv .4) (not-false _ (ap not (sym (capacity-here (c .before))) ∙ c .if4 .left)),
     )
 
 loop3-holds : tie.Need-loop3-holds Inv-loop μ-loop Inv-loop2 μ-loop2 Inv-loop3 μ-loop3 Inv-search μ-search
@@ -161,48 +211,61 @@ loop3-holds c =
     let l = c .before .loop2 in
     (refl, omega arith, l .inv .2, l .inv .3, subst (Met _) (le-antisymm (l .inv .1) (c .loop2-test .left)) (l .inv .4), met-none _)
 
-add-zone-met : tie.Need-add-zone-met Inv-loop μ-loop Inv-loop2 μ-loop2 Inv-loop3 μ-loop3 Inv-search μ-search
-add-zone-met c = omega arith
+mul-zone-met : tie.Need-mul-zone-met Inv-loop μ-loop Inv-loop2 μ-loop2 Inv-loop3 μ-loop3 Inv-search μ-search
+mul-zone-met c = omega (arith, c .before .before .before .before .before .before .before .before .before .before .before .before .before .before .pre .0 .fields .fewZones)
+
+element-copy-out-zone-met : tie.Need-element-copy-out-zone-met Inv-loop μ-loop Inv-loop2 μ-loop2 Inv-loop3 μ-loop3 Inv-search μ-search
+element-copy-out-zone-met c = omega (arith, c .before .before .before .before .before .before .before .before .before .before .before .before .before .before .pre .0 .fields .fewZones)
 
 zone-met-requires : tie.Need-zone-met-requires Inv-loop μ-loop Inv-loop2 μ-loop2 Inv-loop3 μ-loop3 Inv-search μ-search
 zone-met-requires c κs = tt
 
+zone-here : (c : tie.After-zone-met Inv-loop μ-loop Inv-loop2 μ-loop2 Inv-loop3 μ-loop3 Inv-search μ-search)
+    → c .zone-met .result ≡ zoneMet (c .before .before .before .before .before .before .before .before .before .before .before .before .before .before .before .before .args .t1) (c .before .before .before .before .before .before .before .before .plan-at .result) (c .before .before .before .loop3 .z + 1)
+unfolding zoneMet
+zone-here c =
+    let s = c .before .before .before .before .before .before .before .before .before .before .before .before .before .before .before .before in
+    let i = c .before .before .before .loop3 .z in
+    let there : i + 1 - 1 ≡ i = omega arith in
+    rw (zone-numbered-at (s .args .t1) (i + 1) (omega arith), there)
+    (simp (c .zone-met .ensures, s .pre .1 .1 .0, conflict-place (s .args .t1) (s .pre .0) i (c .before .before .loop3-test .taken)))
+
 add-t-4 : tie.Need-add-t-4 Inv-loop μ-loop Inv-loop2 μ-loop2 Inv-loop3 μ-loop3 Inv-search μ-search
-add-t-4 c = omega (arith, c .before .before .before .loop3 .inv .2 .high)
+add-t-4 c = omega (arith, c .before .before .before .before .loop3 .inv .2 .high)
 
 search-less-4 : tie.Need-search-less-4 Inv-loop μ-loop Inv-loop2 μ-loop2 Inv-loop3 μ-loop3 Inv-search μ-search
-search-less-4 c = omega (arith, c .before .before .before .loop3 .inv .0, c .before .before .before .loop3 .inv .2 .high, c .before .before .before .before .before .loop2 .inv .0, c .before .before .before .before .before .before .before .loop .inv .0)
+search-less-4 c = omega (arith, c .before .before .before .before .loop3 .inv .0, c .before .before .before .before .loop3 .inv .2 .high, c .before .before .before .before .before .before .loop2 .inv .0, c .before .before .before .before .before .before .before .before .loop .inv .0)
 
 search-again-4 : tie.Need-search-again-4 Inv-loop μ-loop Inv-loop2 μ-loop2 Inv-loop3 μ-loop3 Inv-search μ-search
 search-again-4 c =
-    let l = c .before .before .before .loop3 in
-    zone-broken (c .before .before .before .before .before .before .before .before .before .before .before .before .before .before .args .j) (c .before .before .before .before .before .before .before .before .before .before .before .before .before .before .args .first) (l .t) _ _ (l .inv .2) (l .z + 1) (omega arith)
-    (not-true _ (ap not (sym (c .before .zone-met .ensures)) ∙ c .if5 .taken))
+    let l = c .before .before .before .before .loop3 in
+    zone-broken (c .before .before .before .before .before .before .before .before .before .before .before .before .before .before .before .before .before .args .t1) (c .before .before .before .before .before .before .before .before .before .before .before .before .before .before .before .before .before .args .first) (l .t) _ _ (l .inv .2) (l .z + 1) (omega arith)
+    (not-true _ (ap not (sym (zone-here (c .before))) ∙ c .if5 .taken))
 
 add-z : tie.Need-add-z Inv-loop μ-loop Inv-loop2 μ-loop2 Inv-loop3 μ-loop3 Inv-search μ-search
-add-z c = omega arith
+add-z c = omega (arith, c .before .before .before .loop3-test .taken, c .before .before .before .before .before .before .before .before .before .before .before .before .before .before .before .before .before .pre .0 .fields .fewZones)
 
 loop3-less : tie.Need-loop3-less Inv-loop μ-loop Inv-loop2 μ-loop2 Inv-loop3 μ-loop3 Inv-search μ-search
 loop3-less c = omega arith
 
 loop3-again : tie.Need-loop3-again Inv-loop μ-loop Inv-loop2 μ-loop2 Inv-loop3 μ-loop3 Inv-search μ-search
 loop3-again c =
-    let l = c .before .before .before .loop3 in (
+    let l = c .before .before .before .before .loop3 in (
       l .inv .0,
       omega arith,
       l .inv .2,
       l .inv .3,
       l .inv .4,
-      met-next _ (l .z) (l .inv .5) (not-false _ (ap not (sym (c .before .zone-met .ensures)) ∙ c .if5 .left)),
+      met-next _ (l .z) (l .inv .5) (not-false _ (ap not (sym (zone-here (c .before))) ∙ c .if5 .left)),
     )
 
 returns : tie.Need-returns Inv-loop μ-loop Inv-loop2 μ-loop2 Inv-loop3 μ-loop3 Inv-search μ-search
-returns c = rest-none (c .before .before .args .j) (c .before .before .args .first) (c .before .search .t) (c .before .search .tried) (c .before .search .inv) (c .if1 .taken)
+returns c = rest-none (c .before .before .args .t1) (c .before .before .args .first) (c .before .search .t) (c .before .search .tried) (c .before .search .inv) (c .if1 .taken)
 
 returns-2 : tie.Need-returns-2 Inv-loop μ-loop Inv-loop2 μ-loop2 Inv-loop3 μ-loop3 Inv-search μ-search
 returns-2 c =
     let l = c .before .loop3 in
-    trying-found (c .before .before .before .before .before .before .before .before .before .before .before .before .args .j) (c .before .before .before .before .before .before .before .before .before .before .before .before .args .first) (l .t) _ _ (l .inv .2) (l .inv .3) (l .inv .4)
+    trying-found (c .before .before .before .before .before .before .before .before .before .before .before .before .before .before .args .t1) (c .before .before .before .before .before .before .before .before .before .before .before .before .before .before .args .first) (l .t) _ _ (l .inv .2) (l .inv .3) (l .inv .4)
     (subst (Met _) (le-antisymm (l .inv .1) (c .loop3-test .left)) (l .inv .5))
 
 pub search-spec : {M : Type 1} → statement M
@@ -220,13 +283,18 @@ search-spec =
     search-holds
     add-tried
     at-cycle-requires
+    shared-out-requires
+    slots-of-requires
     possible-requires
     add-t
     search-less
     search-again
     plan-at-requires
     loop-holds
-    add-need-met
+    mul-need-met
+    element-copy-out-need-met
+    add-green-of
+    green-of-requires
     need-met-requires
     add-t-2
     search-less-2
@@ -235,7 +303,12 @@ search-spec =
     loop-less
     loop-again
     loop2-holds
-    add-capacity-met
+    mul-capacity-met
+    element-copy-out-capacity-met
+    mul-capacity-met-2
+    element-copy-out-capacity-met-2
+    add-green-of-2
+    green-of-requires-2
     capacity-met-requires
     add-t-3
     search-less-3
@@ -244,7 +317,8 @@ search-spec =
     loop2-less
     loop2-again
     loop3-holds
-    add-zone-met
+    mul-zone-met
+    element-copy-out-zone-met
     zone-met-requires
     add-t-4
     search-less-4

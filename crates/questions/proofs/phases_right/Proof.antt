@@ -1,39 +1,39 @@
 -- `questions::phases_right` meets its contract.
 use borrow.Author.Needs.{needs}
-use Rattle.questions.specs.Questions.{phasesRight}
+use Rattle.questions.specs.Questions.{phaseUsed, phaseFollows, phasesRight}
 use Rattle.questions.proofs.phases_right.Statement.{statement}
 use Rattle.questions.proofs.phases_right.Tie as tie
 
-phase-used-requires : tie.Need-phase-used-requires
-phase-used-requires c κs = search needs
+first-in-phase-requires : tie.Need-first-in-phase-requires
+first-in-phase-requires c κs = search needs
 
-phase-used-requires-2 : tie.Need-phase-used-requires-2
-phase-used-requires-2 c κs = search needs
+first-in-phase-requires-2 : tie.Need-first-in-phase-requires-2
+first-in-phase-requires-2 c κs = search needs
 
-phase-follows-requires : tie.Need-phase-follows-requires
-phase-follows-requires c κs = search needs
+first-in-phase-requires-3 : tie.Need-first-in-phase-requires-3
+first-in-phase-requires-3 c κs = search needs
 
-phase-follows-requires-2 : tie.Need-phase-follows-requires-2
-phase-follows-requires-2 c κs = search needs
+first-in-phase-requires-4 : tie.Need-first-in-phase-requires-4
+first-in-phase-requires-4 c κs = search needs
 
-phase-follows-requires-3 : tie.Need-phase-follows-requires-3
-phase-follows-requires-3 c κs = search needs
+first-in-phase-requires-5 : tie.Need-first-in-phase-requires-5
+first-in-phase-requires-5 c κs = search needs
 
-phase-follows-requires-4 : tie.Need-phase-follows-requires-4
-phase-follows-requires-4 c κs = search needs
+first-in-phase-requires-6 : tie.Need-first-in-phase-requires-6
+first-in-phase-requires-6 c κs = search needs
 
 returns : tie.Need-returns
-unfolding phasesRight
-returns c = simp (c .phase-follows4 .ensures, c .before .phase-follows3 .ensures, c .before .before .phase-follows2 .ensures, c .before .before .before .phase-follows .ensures, c .before .before .before .before .phase-used2 .ensures, c .before .before .before .before .before .phase-used .ensures)
+unfolding phasesRight phaseFollows phaseUsed
+returns c = simp (c .first-in-phase6 .ensures, c .before .first-in-phase5 .ensures, c .before .before .first-in-phase4 .ensures, c .before .before .before .first-in-phase3 .ensures, c .before .before .before .before .first-in-phase2 .ensures, c .before .before .before .before .before .first-in-phase .ensures)
 
 pub phases-right-spec : {M : Type 1} → statement M
 phases-right-spec =
     tie.close
     (tie.spec
-    phase-used-requires
-    phase-used-requires-2
-    phase-follows-requires
-    phase-follows-requires-2
-    phase-follows-requires-3
-    phase-follows-requires-4
+    first-in-phase-requires
+    first-in-phase-requires-2
+    first-in-phase-requires-3
+    first-in-phase-requires-4
+    first-in-phase-requires-5
+    first-in-phase-requires-6
     returns)

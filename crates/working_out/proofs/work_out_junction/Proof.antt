@@ -4,10 +4,20 @@ use mathlib.Core.Path.{_≡_, sym, _∙_, ap}
 use native.Mathlib.Omega.{arith}
 use lib.ListN.{length}
 use Rattle.fields.specs.Verdict.{isRefused, not-refused}
+use Rattle.planning.specs.Planning.{ratios}
 use Rattle.working_out.specs.Cases.{found-cycle, cycle-works, cycle-found, worked-refused, worked-passed, buffer-refused, buffer-passed}
 use Rattle.working_out.specs.WorkingOut.{junctionVerdict}
 use Rattle.working_out.proofs.work_out_junction.Statement.{statement}
 use Rattle.working_out.proofs.work_out_junction.Tie as tie
+
+loads-of-requires : tie.Need-loads-of-requires
+loads-of-requires c κs = search needs
+
+conflicts-of-requires : tie.Need-conflicts-of-requires
+conflicts-of-requires c κs = search needs
+
+phases-at-requires : tie.Need-phases-at-requires
+phases-at-requires c κs = search needs
 
 find-cycle-requires : tie.Need-find-cycle-requires
 find-cycle-requires c κs = search needs
@@ -15,8 +25,8 @@ find-cycle-requires c κs = search needs
 has-room-requires : tie.Need-has-room-requires
 has-room-requires c κs = search needs
 
-ratios-requires : tie.Need-ratios-requires
-ratios-requires c κs = search needs
+ratio-sum-requires : tie.Need-ratio-sum-requires
+ratio-sum-requires c κs = search needs
 
 calculated-requires : tie.Need-calculated-requires
 calculated-requires c κs = search needs
@@ -25,34 +35,35 @@ refused-requires : tie.Need-refused-requires
 refused-requires c κs = search needs
 
 returns : tie.Need-returns
-unfolding junctionVerdict
+unfolding junctionVerdict ratios
 returns c =
-    let a = c .before .before .before .before .before .before .before .args in
+    let a = c .before .before .before .before .before .before .before .before .before .before .args in
+    let f = c .before .before .before .before .before .find-cycle .ensures in
     let e : c .before .before .calculated .result ≡ junctionVerdict (a .j) (length (a .out .now)) =
-    c .before .before .calculated .ensures ∙ simp (c .before .before .before .ratios .ensures, c .before .before .before .before .has-room .ensures, c .before .before .before .before .before .find-cycle .ensures, found-cycle) in
+    c .before .before .calculated .ensures ∙ simp (c .before .before .before .ratio-sum .ensures, c .before .before .before .before .has-room .ensures, f, found-cycle, c .before .before .before .before .before .before .phases-at .ensures) in
     let t = ap isRefused (sym e) ∙ sym (c .before .refused .ensures) ∙ c .if1 .taken in
     (rw e (worked-refused (a .j) _ t), buffer-refused (a .j) _ t)
 
 write-plan-requires : tie.Need-write-plan-requires
-unfolding junctionVerdict
+unfolding junctionVerdict ratios
 write-plan-requires c κs =
-    let a = c .before .before .before .before .before .before .before .before .args in
+    let a = c .before .before .before .before .before .before .before .before .before .before .before .args in
     let f = c .before .before .before .before .before .before .find-cycle .ensures in
     let e : c .before .before .before .calculated .result ≡ junctionVerdict (a .j) (length (a .out .now)) =
-    c .before .before .before .calculated .ensures ∙ simp (c .before .before .before .before .ratios .ensures, c .before .before .before .before .before .has-room .ensures, f, found-cycle) in
+    c .before .before .before .calculated .ensures ∙ simp (c .before .before .before .before .ratio-sum .ensures, c .before .before .before .before .before .has-room .ensures, f, found-cycle, c .before .before .before .before .before .before .before .phases-at .ensures) in
     let low = cycle-found (a .j) _ (not-refused _ (ap isRefused (sym e) ∙ sym (c .before .before .refused .ensures) ∙ c .before .if1 .left)) in
-    (c .before .before .before .before .before .before .before .before .pre, (rw (f, found-cycle) (cycle-works (a .j) low .1), rw (f, found-cycle) (omega (arith, low))))
+    (c .before .before .before .before .before .before .before .before .before .before .before .pre, (c .before .before .before .before .before .before .before .before .before .loads-of .ensures, (c .before .before .before .before .before .before .before .phases-at .ensures, (rw (f, found-cycle) (cycle-works (a .j) low .1), rw (f, found-cycle) (omega (arith, low))))))
 
 same-length : tie.Need-same-length
 same-length c = search needs
 
 returns-2 : tie.Need-returns-2
-unfolding junctionVerdict
+unfolding junctionVerdict ratios
 returns-2 c =
-    let a = c .before .before .before .before .before .before .before .before .before .before .before .args in
+    let a = c .before .before .before .before .before .before .before .before .before .before .before .before .before .before .args in
     let f = c .before .before .before .before .before .before .before .before .before .find-cycle .ensures in
     let e : c .before .before .before .before .before .before .calculated .result ≡ junctionVerdict (a .j) (length (a .out .now)) =
-    c .before .before .before .before .before .before .calculated .ensures ∙ simp (c .before .before .before .before .before .before .before .ratios .ensures, c .before .before .before .before .before .before .before .before .has-room .ensures, f, found-cycle) in
+    c .before .before .before .before .before .before .calculated .ensures ∙ simp (c .before .before .before .before .before .before .before .ratio-sum .ensures, c .before .before .before .before .before .before .before .before .has-room .ensures, f, found-cycle, c .before .before .before .before .before .before .before .before .before .before .phases-at .ensures) in
     let t = ap isRefused (sym e) ∙ sym (c .before .before .before .before .before .refused .ensures) ∙ c .before .before .before .before .if1 .left in
     (rw (e, f) (worked-passed (a .j) _ t), simp (c .before .before .write-plan .ensures, f, found-cycle) (buffer-passed (a .j) _ t))
 
@@ -60,9 +71,12 @@ pub work-out-junction-spec : {M : Type 1} → statement M
 work-out-junction-spec =
     tie.close
     (tie.spec
+    loads-of-requires
+    conflicts-of-requires
+    phases-at-requires
     find-cycle-requires
     has-room-requires
-    ratios-requires
+    ratio-sum-requires
     calculated-requires
     refused-requires
     returns

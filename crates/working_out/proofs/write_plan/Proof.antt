@@ -1,14 +1,25 @@
 -- `working_out::write_plan` meets its contract: a length that works is possible.
 use borrow.Author.Needs.{needs}
+use mathlib.Core.Path.{_∙_, ap}
+use Rattle.phases.specs.Phases.{slotsOf}
 use Rattle.planning.specs.Lengths.{works-only}
 use Rattle.working_out.proofs.write_plan.Statement.{statement}
 use Rattle.working_out.proofs.write_plan.Tie as tie
 
-phases-at-requires : tie.Need-phases-at-requires
-phases-at-requires c κs = search needs
+at-cycle-requires : tie.Need-at-cycle-requires
+at-cycle-requires c κs = search needs
+
+shared-out-requires : tie.Need-shared-out-requires
+shared-out-requires c κs = search needs
+
+slots-of-requires : tie.Need-slots-of-requires
+slots-of-requires c κs = search needs
 
 plan-at-requires : tie.Need-plan-at-requires
-plan-at-requires c κs = let pre = c .before .before .pre in let e = c .phases-at .ensures in (pre .0, (e, (rw e (works-only _ _ (pre .1 .0) .0), pre .1 .1)))
+plan-at-requires c κs =
+    let pre = c .before .before .before .before .pre in
+    let e = c .before .before .at-cycle .ensures in
+    (pre .0, (e, (c .slots-of .ensures ∙ ap (slotsOf _) (c .before .shared-out .ensures), (rw e (works-only _ _ (pre .1 .1 .1 .0) .0), pre .1 .1 .1 .1))))
 
 write-requires : tie.Need-write-requires
 write-requires c κs = search needs
@@ -21,4 +32,4 @@ returns c = simp (c .before .before .write .ensures, c .before .before .before .
 
 pub write-plan-spec : {M : Type 1} → statement M
 write-plan-spec =
-    tie.close (tie.spec phases-at-requires plan-at-requires write-requires same-length returns)
+    tie.close (tie.spec at-cycle-requires shared-out-requires slots-of-requires plan-at-requires write-requires same-length returns)

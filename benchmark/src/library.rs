@@ -1,0 +1,37 @@
+//! The library's C entries for judging and working out.
+use crate::plain::Refusal;
+
+#[repr(C)]
+struct JudgeAnswer {
+    place: usize,
+    refusal: u8,
+}
+
+#[repr(C)]
+struct PlanAnswer {
+    place: usize,
+    refusal: u8,
+    cycle: u16,
+    tried: u16,
+}
+
+#[link(name = "givendra", kind = "static")]
+extern "C" {
+    fn givendra_judge(junction: *const u8, junction_length: usize, plan: *const u8, plan_length: usize) -> JudgeAnswer;
+    fn givendra_work_out(junction: *const u8, junction_length: usize, buffer: *mut u8, buffer_length: usize) -> PlanAnswer;
+}
+
+pub fn judge(junction: &[u8], plan: &[u8]) -> Result<(), Refusal> {
+    let answer = unsafe { givendra_judge(junction.as_ptr(), junction.len(), plan.as_ptr(), plan.len()) };
+    if answer.refusal == 0 { Ok(()) } else { Err(Refusal { number: answer.refusal, place: answer.place }) }
+}
+
+/// The cycle and how many lengths were tried.
+pub fn work_out(junction: &[u8], buffer: &mut [u8]) -> Result<(u16, u16), Refusal> {
+    let answer = unsafe { givendra_work_out(junction.as_ptr(), junction.len(), buffer.as_mut_ptr(), buffer.len()) };
+    if answer.refusal == 0 {
+        Ok((answer.cycle, answer.tried))
+    } else {
+        Err(Refusal { number: answer.refusal, place: answer.place })
+    }
+}

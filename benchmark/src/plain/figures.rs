@@ -1,0 +1,211 @@
+//! Entries, needs and flows (annex, sections 1 and 2), and the tables of them that are worked out once.
+use super::reading::{Car, Junction, Kind, Pedestrian, Stream, Tram, Zone};
+
+// ---- times
+
+/// n / d, or the root of q / d less whole seconds.
+#[derive(Clone, Copy)]
+enum Time {
+    Ratio { n: u64, d: u64 },
+    Root { q: u64, d: u64, less: u64 },
+}
+
+fn leaving(kind: &Kind, l: u16) -> Time {
+    let l = l as u64;
+    match kind {
+        Kind::Car(c) => car_leaving(c, l),
+        Kind::Tram(t) => tram_leaving(t, l),
+        Kind::Pedestrian(p) => Time::Ratio { n: l, d: p.speed as u64 },
+        Kind::Cyclist { .. } => Time::Ratio { n: 40 + l, d: 40 },
+    }
+}
+
+fn car_leaving(c: &Car, l: u64) -> Time {
+    let (approach, d) = match c.radius {
+        0 => (3, 100),
+        151.. => (2, 70),
+        _ => (2, 50),
+    };
+    Time::Ratio { n: (approach * d + l + 60).max((c.amber as u64 + 1) * d), d }
+}
+
+fn tram_leaving(t: &Tram, l: u64) -> Time {
+    let way = l + t.length as u64;
+    if !t.stop {
+        Time::Ratio { n: 5_100 + 9 * way, d: 1_000 }
+    } else if l <= 400 {
+        Time::Root { q: way, d: 5, less: 0 }
+    } else {
+        Time::Ratio { n: 12_321 + 10 * (l - 400), d: 1_110 }
+    }
+}
+
+fn reaching(kind: &Kind, r: u16) -> Time {
+    let r = r as u64;
+    match kind {
+        Kind::Car(Car { flying: true, .. }) | Kind::Tram(Tram { stop: false, .. }) => Time::Ratio { n: 9 * r, d: 1_000 },
+        Kind::Car(_) => Time::Root { q: r + 15, d: 10, less: 1 },
+        Kind::Tram(_) => Time::Root { q: r + 15, d: 5, less: 0 },
+        Kind::Pedestrian(Pedestrian { counted: true, .. }) => Time::Ratio { n: r, d: 15 },
+        Kind::Cyclist { counted: true } => Time::Ratio { n: r, d: 50 },
+        Kind::Pedestrian(_) | Kind::Cyclist { .. } => Time::Ratio { n: 0, d: 1 },
+    }
+}
+
+/// Is the leaving time at most gap + the reaching time? By squares, twice where two roots meet.
+fn within(leave: Time, reach: Time, gap: u64) -> bool {
+    match (leave, reach) {
+        (Time::Ratio { n: m, d: b }, Time::Ratio { n, d }) => m * d <= gap * b * d + n * b,
+        (Time::Ratio { n: m, d: b }, Time::Root { q, d, less }) => {
+            let side = (m + less * b).saturating_sub(gap * b);
+            side * side * d <= q * b * b
+        }
+        (Time::Root { q, d: e, less }, Time::Ratio { n, d }) => {
+            let side = (gap + less) * d + n;
+            q * d * d <= side * side * e
+        }
+        (Time::Root { q, d: e, less: more }, Time::Root { q: p, d: f, less }) => {
+            let (a, p, s, gap) = (q * f, p * e, e * f, gap + more);
+            if less <= gap {
+                let square = (gap - less) * (gap - less);
+                let side = a.saturating_sub(square * s + p);
+                side * side <= 4 * square * s * p
+            } else {
+                let square = (less - gap) * (less - gap);
+                let low = a + square * s;
+                low <= p && 4 * square * s * a <= (p - low) * (p - low)
+            }
+        }
+    }
+}
+
+/// The least whole number, from 0 on, that is enough.
+fn entry(from: &Stream, to: &Stream, clearing: u16, reach: u16) -> u16 {
+    let (leave, reach) = (leaving(&from.kind, clearing), reaching(&to.kind, reach));
+    let mut gap = 0;
+    while !within(leave, reach, gap) {
+        gap += 1;
+    }
+    gap as u16
+}
+
+// ---- needs and flows
+
+/// Table 3: the longest cycle in which 15 to 34 trams an hour need 10 s.
+const TABLE_3: [u16; 20] = [120, 113, 106, 100, 95, 91, 87, 82, 79, 75, 72, 69, 67, 65, 63, 60, 58, 56, 54, 53];
+
+pub fn need(kind: &Kind, cycle: u16) -> u16 {
+    match kind {
+        Kind::Car(_) => 8,
+        Kind::Tram(t) => if cycle <= TABLE_3[t.hourly.max(15) as usize - 15] { 10 } else { 20 },
+        Kind::Pedestrian(p) => {
+            let speed = if p.crossing > 120 || p.hourly <= 120 { 16 } else { 12 };
+            (p.crossing.div_ceil(speed) + if p.disturbed { 3 } else { 0 }).max(6)
+        }
+        Kind::Cyclist { .. } => 6,
+    }
+}
+
+fn base_flow(c: &Car) -> u64 {
+    let r = c.radius as u64;
+    if r != 0 {
+        return if c.rows == 2 { 12_000 } else { 7_200 } * r / (4 * r + 61);
+    }
+    match c.width {
+        ..=324 => 1_850,
+        325..=329 => 1_870,
+        330..=349 => 1_875,
+        350..=359 => 1_925,
+        360..=374 => 1_950,
+        375..=399 => 1_980,
+        400..=419 => 2_030,
+        420..=449 => 2_075,
+        450..=479 => 2_275,
+        480..=499 => 2_475,
+        500..=539 => 2_585,
+        540 => 2_700,
+        541.. => 21 * c.width as u64 / 4,
+    }
+}
+
+fn saturation_flow(c: &Car) -> u32 {
+    let gradient = 130 - 3 * c.gradient as u64;
+    let conditions = match c.conditions {
+        1 => 120,
+        2 => 100,
+        _ => 85,
+    };
+    let (left, right) = (c.left as u64, c.right as u64);
+    let divisor = if left + right < 10 { 400 } else { 4 * (100 - left - right) + 7 * left + 5 * right };
+    (base_flow(c) * gradient * conditions * 400 / (10_000 * divisor)) as u32
+}
+
+// ---- tables
+
+/// A zone's streams and the entries of the pair.
+#[derive(Clone, Copy, Default)]
+pub struct Conflict {
+    pub a: usize,
+    pub b: usize,
+    pub ahead: u16,
+    pub behind: u16,
+}
+
+/// The conflict at a zone: the entries are the largest over all zones of the pair.
+pub fn conflict(j: &Junction, zone: &Zone) -> Conflict {
+    let (first, second) = (&j.streams()[zone.a], &j.streams()[zone.b]);
+    let mut c = Conflict { a: zone.a, b: zone.b, ahead: 0, behind: 0 };
+    for z in j.zones() {
+        if (z.a, z.b) == (zone.a, zone.b) {
+            c.ahead = c.ahead.max(entry(first, second, z.clearing_a, z.reaching_b));
+            c.behind = c.behind.max(entry(second, first, z.clearing_b, z.reaching_a));
+        }
+    }
+    c
+}
+
+pub struct Conflicts {
+    of: [Conflict; 64],
+    count: usize,
+}
+
+impl Conflicts {
+    pub fn new(j: &Junction) -> Conflicts {
+        let mut all = Conflicts { of: [Conflict::default(); 64], count: j.zones().len() };
+        for (c, z) in all.of.iter_mut().zip(j.zones()) {
+            *c = conflict(j, z);
+        }
+        all
+    }
+
+    pub fn all(&self) -> &[Conflict] {
+        &self.of[..self.count]
+    }
+}
+
+/// Flow and saturation flow of a car in E/h, and their ratio in ten-thousandths; 0 for other streams.
+#[derive(Clone, Copy, Default)]
+pub struct Load {
+    pub flow: u16,
+    pub saturation: u32,
+    pub ratio: u32,
+}
+
+pub fn load(j: &Junction, stream: usize) -> Load {
+    match &j.streams()[stream].kind {
+        Kind::Car(car) => {
+            let flow = j.flow(stream).unwrap_or(0);
+            let saturation = saturation_flow(car);
+            Load { flow, saturation, ratio: (10_000 * flow as u32).div_ceil(saturation) }
+        }
+        _ => Load::default(),
+    }
+}
+
+pub fn loads(j: &Junction) -> [Load; 16] {
+    let mut all = [Load::default(); 16];
+    for s in 0..j.streams().len() {
+        all[s] = load(j, s);
+    }
+    all
+}

@@ -1,0 +1,88 @@
+-- The answers to programs in other languages: the paper's number and place of the verdict, and the figures, 0 where something is refused.
+use Prim.Native.Nat.{ℕ}
+use mathlib.Core.Bool.{Bool, _&&_, cond}
+use mathlib.Core.List.{List}
+use lib.Dec.{leb}
+use Rattle.fields.specs.Verdict.{numberOf, placeOf, isRefused, ask, firstRefusal}
+use Rattle.fields.specs.declared.Verdict.{Verdict}
+use Rattle.fields.specs.declared.Verdict.the-variants.{Passed}
+use Rattle.junction.specs.declared.Junction.{Junction}
+use Rattle.questions.specs.Questions.{exists, countRefers}
+use Rattle.reading.specs.Reading.{reading}
+use Rattle.junction_figures.specs.Figures.{pairEntry, streamNeed, streamSaturation, streamRatio}
+use Rattle.judging.specs.Judgement.{judgement}
+use Rattle.working_out.specs.WorkingOut.{worked}
+use Rattle.givendra.specs.declared.JudgeAnswer.{JudgeAnswer}
+use Rattle.givendra.specs.declared.PlanAnswer.{PlanAnswer}
+use Rattle.givendra.specs.declared.JunctionAnswer.{JunctionAnswer}
+use Rattle.givendra.specs.declared.Figure.{Figure}
+
+-- the judge's verdict
+unfoldable pub judgeAnswer : List ℕ → List ℕ → JudgeAnswer
+judgeAnswer junction plan = record { place = placeOf (judgement junction plan); refusal = numberOf (judgement junction plan) }
+
+-- what is worked out, with a buffer of so many bytes
+unfoldable pub planAnswer : List ℕ → ℕ → PlanAnswer
+planAnswer junction size =
+    record {
+      place = placeOf (worked junction size .verdict);
+      refusal = numberOf (worked junction size .verdict);
+      cycle = worked junction size .cycle;
+      tried = worked junction size .tried;
+    }
+
+-- a number of the junction, 0 where the file is refused
+abbrev unlessRefused : Verdict → ℕ → ℕ
+unlessRefused v x = cond (isRefused v) 0 x
+
+-- what a junction file holds
+unfoldable pub junctionAnswer : List ℕ → JunctionAnswer
+junctionAnswer junction =
+    record {
+      place = placeOf (reading junction .verdict);
+      refusal = numberOf (reading junction .verdict);
+      «design_day» = unlessRefused (reading junction .verdict) (reading junction .junction .day);
+      streams = unlessRefused (reading junction .verdict) (reading junction .junction .held .streams);
+      zones = unlessRefused (reading junction .verdict) (reading junction .junction .held .zones);
+      counts = unlessRefused (reading junction .verdict) (reading junction .junction .held .counts);
+    }
+
+-- a figure, and the verdict on what was asked
+unfoldable pub figure : Verdict → ℕ → Figure
+figure v x = record { place = placeOf v; refusal = numberOf v; value = unlessRefused v x }
+
+-- an entry's own questions, after the junction's: 7, place the number asked for, does the stream exist?
+unfoldable pub intergreenVerdict : Junction → ℕ → ℕ → Verdict
+intergreenVerdict j from to = ask (exists j from) 7 from (ask (exists j to) 7 to Passed)
+
+-- 7, then 13, place 0: is the cycle from 1 to 180?
+unfoldable pub needVerdict : Junction → ℕ → ℕ → Verdict
+needVerdict j n cycle = ask (exists j n) 7 n (ask (leb 1 cycle && leb cycle 180) 13 0 Passed)
+
+-- 7: is it an existing car?
+unfoldable pub carVerdict : Junction → ℕ → Verdict
+carVerdict j n = ask (countRefers j n) 7 n Passed
+
+-- the entry from one stream to another, (19)
+unfoldable pub intergreenAnswer : List ℕ → ℕ → ℕ → Figure
+intergreenAnswer junction from to =
+    figure (firstRefusal (reading junction .verdict) (intergreenVerdict (reading junction .junction) from to))
+    (pairEntry (reading junction .junction) from to)
+
+-- the needed green of a stream at a cycle
+unfoldable pub needAnswer : List ℕ → ℕ → ℕ → Figure
+needAnswer junction n cycle =
+    figure (firstRefusal (reading junction .verdict) (needVerdict (reading junction .junction) n cycle))
+    (streamNeed (reading junction .junction) n cycle)
+
+-- the saturation flow of a car stream, (28)
+unfoldable pub saturationAnswer : List ℕ → ℕ → Figure
+saturationAnswer junction n =
+    figure (firstRefusal (reading junction .verdict) (carVerdict (reading junction .junction) n))
+    (streamSaturation (reading junction .junction) n)
+
+-- the flow ratio y of a car stream
+unfoldable pub ratioAnswer : List ℕ → ℕ → Figure
+ratioAnswer junction n =
+    figure (firstRefusal (reading junction .verdict) (carVerdict (reading junction .junction) n))
+    (streamRatio (reading junction .junction) n)

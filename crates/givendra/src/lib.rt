@@ -1,0 +1,263 @@
+// The library for programs in other languages (include/givendra.h): every answer is a struct of numbers. A refusal's number is 0 where
+// nothing is refused, and the other numbers are 0 where something is.
+ghost use mathlib.Core.Path.{_≡_};
+ghost use Prim.Native.Nat.{max};
+ghost use lib.ListN.{length};
+ghost use Rattle.working_out.specs.WorkingOut.{buffer as bufferAfter};
+ghost use Rattle.givendra.specs.Answers.{judgeAnswer, planAnswer, junctionAnswer, figure as figureOf, intergreenVerdict, intergreenAnswer, needVerdict, needAnswer, carVerdict, saturationAnswer, ratioAnswer};
+ghost use Rattle.givendra.specs.LentList.{recordRank, newestAnswer, newestFigure};
+use fields::Verdict;
+use fields::ask;
+use junction::Junction;
+use junction::Reading;
+use working_out::Worked;
+
+// A judge's answer.
+#[repr(C)]
+pub struct JudgeAnswer {
+    pub place: usize,
+    pub refusal: u8,
+}
+
+// The cycle in seconds, and how many lengths were tried.
+#[repr(C)]
+pub struct PlanAnswer {
+    pub place: usize,
+    pub refusal: u8,
+    pub cycle: u16,
+    pub tried: u16,
+}
+
+// What a junction file holds.
+#[repr(C)]
+pub struct JunctionAnswer {
+    pub place: usize,
+    pub refusal: u8,
+    pub design_day: u16,
+    pub streams: usize,
+    pub zones: usize,
+    pub counts: usize,
+}
+
+// A figure of the annex.
+#[repr(C)]
+pub struct Figure {
+    pub place: usize,
+    pub refusal: u8,
+    pub value: u32,
+}
+
+// Judges a plan file for a junction file.
+#[no_mangle]
+pub extern "C" fn givendra_judge(junction: &[u8], plan: &[u8]) -> JudgeAnswer
+    ensures { λ r. ⌜ r ≡ judgeAnswer (now (junction .entry)) (now (plan .entry)) ⌝ }
+{
+    let verdict = judging::judge(junction, plan);
+    match verdict {
+        Verdict::Passed => JudgeAnswer {
+            place: 0,
+            refusal: 0,
+        },
+        Verdict::Refused { number, place } => JudgeAnswer {
+            place,
+            refusal: number,
+        },
+    }
+}
+
+// Works out a plan for a junction file, and writes its plan file into the lent buffer.
+#[no_mangle]
+pub extern "C" fn givendra_work_out(junction: &[u8], buffer: &mut [u8]) -> PlanAnswer
+    ensures result { λ r. ⌜ r ≡ planAnswer (now (junction .entry)) (length (now (buffer .entry))) ⌝ }
+    ensures lent { λ _. ⌜ now (buffer .exit) ≡ bufferAfter (now (junction .entry)) (now (buffer .entry)) ⌝ }
+{
+    let worked = working_out::work_out(junction, buffer);
+    let verdict = worked.verdict;
+    match verdict {
+        Verdict::Passed => PlanAnswer {
+            place: 0,
+            refusal: 0,
+            cycle: worked.cycle,
+            tried: worked.tried,
+        },
+        Verdict::Refused { number, place } => PlanAnswer {
+            place,
+            refusal: number,
+            cycle: worked.cycle,
+            tried: worked.tried,
+        },
+    }
+}
+
+// Reads a junction file.
+#[no_mangle]
+pub extern "C" fn givendra_read_junction(junction: &[u8]) -> JunctionAnswer
+    ensures { λ r. ⌜ r ≡ junctionAnswer (now (junction .entry)) ⌝ }
+{
+    let reading = reading::read(junction);
+    let j = reading.junction;
+    let verdict = reading.verdict;
+    match verdict {
+        Verdict::Passed => JunctionAnswer {
+            place: 0,
+            refusal: 0,
+            design_day: j.day,
+            streams: j.held.streams,
+            zones: j.held.zones,
+            counts: j.held.counts,
+        },
+        Verdict::Refused { number, place } => JunctionAnswer {
+            place,
+            refusal: number,
+            design_day: 0,
+            streams: 0,
+            zones: 0,
+            counts: 0,
+        },
+    }
+}
+
+fn figure_of(v: Verdict, value: u32) -> Figure
+    ensures { λ r. ⌜ r ≡ figureOf v value ⌝ }
+{
+    match v {
+        Verdict::Passed => Figure {
+            place: 0,
+            refusal: 0,
+            value,
+        },
+        Verdict::Refused { number, place } => Figure {
+            place,
+            refusal: number,
+            value: 0,
+        },
+    }
+}
+
+// The intergreen time from one stream to another, in seconds.
+#[no_mangle]
+pub extern "C" fn givendra_intergreen(junction: &[u8], from: usize, to: usize) -> Figure
+    ensures { λ r. ⌜ r ≡ intergreenAnswer (now (junction .entry)) from to ⌝ }
+{
+    let reading = reading::read(junction);
+    let j = reading.junction;
+    let verdict = reading.verdict;
+    let own = intergreen_verdict(j, from, to);
+    figure_of(
+        fields::first_refusal(verdict, own),
+        junction_figures::pair_entry(j, from, to) as u32,
+    )
+}
+
+fn intergreen_verdict(j: Junction, from: usize, to: usize) -> Verdict
+    ensures { λ r. ⌜ r ≡ intergreenVerdict j from to ⌝ }
+{
+    let second = ask(questions::exists(j, to), 7, to, Verdict::Passed);
+    ask(questions::exists(j, from), 7, from, second)
+}
+
+// The needed green of a stream at a cycle, both in seconds.
+#[no_mangle]
+pub extern "C" fn givendra_need(junction: &[u8], stream: usize, cycle: u16) -> Figure
+    ensures { λ r. ⌜ r ≡ needAnswer (now (junction .entry)) stream cycle ⌝ }
+{
+    let reading = reading::read(junction);
+    let j = reading.junction;
+    let verdict = reading.verdict;
+    let own = need_verdict(j, stream, cycle);
+    figure_of(
+        fields::first_refusal(verdict, own),
+        junction_figures::stream_need(j, stream, cycle),
+    )
+}
+
+fn need_verdict(j: Junction, stream: usize, cycle: u16) -> Verdict
+    ensures { λ r. ⌜ r ≡ needVerdict j stream cycle ⌝ }
+{
+    let second = ask((1 <= cycle) & (cycle <= 180), 13, 0, Verdict::Passed);
+    ask(questions::exists(j, stream), 7, stream, second)
+}
+
+// The saturation flow of a car stream, in E/h.
+#[no_mangle]
+pub extern "C" fn givendra_saturation_flow(junction: &[u8], stream: usize) -> Figure
+    ensures { λ r. ⌜ r ≡ saturationAnswer (now (junction .entry)) stream ⌝ }
+{
+    let reading = reading::read(junction);
+    let j = reading.junction;
+    let verdict = reading.verdict;
+    let own = car_verdict(j, stream);
+    figure_of(
+        fields::first_refusal(verdict, own),
+        junction_figures::stream_saturation(j, stream),
+    )
+}
+
+// The flow ratio of a car stream, in ten-thousandths.
+#[no_mangle]
+pub extern "C" fn givendra_flow_ratio(junction: &[u8], stream: usize) -> Figure
+    ensures { λ r. ⌜ r ≡ ratioAnswer (now (junction .entry)) stream ⌝ }
+{
+    let reading = reading::read(junction);
+    let j = reading.junction;
+    let verdict = reading.verdict;
+    let own = car_verdict(j, stream);
+    figure_of(
+        fields::first_refusal(verdict, own),
+        junction_figures::stream_ratio(j, stream),
+    )
+}
+
+fn car_verdict(j: Junction, stream: usize) -> Verdict
+    ensures { λ r. ⌜ r ≡ carVerdict j stream ⌝ }
+{
+    ask(
+        questions::count_refers(j, stream),
+        7,
+        stream,
+        Verdict::Passed,
+    )
+}
+
+// A count record of a lent list.
+#[repr(C)]
+pub struct CountRecord {
+    pub stream: u8,
+    pub count_day: u16,
+    pub file_day: u16,
+    pub flow: u16,
+}
+
+// The higher of two ranks: the highest so far, and that of a record.
+fn newer_record(best: u32, stream: usize, design_day: u16, r: CountRecord) -> u32
+    ensures { λ x. ⌜ x ≡ max best (recordRank stream «design_day» r) ⌝ }
+{
+    counts::newer(best, stream, design_day, r.stream, r.count_day, r.flow)
+}
+
+// The flow of a stream by a lent list of counts, in E/h.
+#[no_mangle]
+pub extern "C" fn givendra_newest_count(
+    list: &[CountRecord],
+    stream: usize,
+    design_day: u16,
+) -> Figure
+    ensures { λ r. ⌜ r ≡ newestAnswer (now (list .entry)) stream «design_day» ⌝ }
+{
+    let mut best: u32 = 0;
+    let mut place: usize = 0;
+    while place < list.len() {
+        best = newer_record(best, stream, design_day, list[place]);
+        place += 1;
+    }
+    newest_figure(stream, best)
+}
+
+fn newest_figure(stream: usize, rank: u32) -> Figure
+    ensures { λ r. ⌜ r ≡ newestFigure stream rank ⌝ }
+{
+    figure_of(
+        ask(1 <= rank, 9, stream, Verdict::Passed),
+        counts::flow(rank) as u32,
+    )
+}

@@ -1,0 +1,84 @@
+-- `rules::first_short` meets its contract: the invariant is that the first place from here on is the first of all.
+use Prim.Native.Nat.{_+_, _-_, _≤_}
+use mathlib.Core.Bool.{not}
+use mathlib.Core.Path.{_≡_, refl, sym, _∙_, ap}
+use native.Mathlib.Omega.{arith}
+use Rattle.laws.specs.Search.{firstBelow, first-found, first-next, first-out}
+use Rattle.fields.specs.Verdict.{firstFailing}
+use Rattle.tables.specs.Places.{stream-place}
+use Rattle.rules.specs.Rules.{needMet}
+use Rattle.rules.proofs.first_short.Statement.{statement}
+use Rattle.rules.proofs.first_short.Tie as tie
+
+abbrev Inv-loop : tie.InvT-loop
+Inv-loop p j streams i₀ i =
+    (i ≤ j .held .streams)
+    × (firstBelow (λ k. not (needMet j p (k + 1))) (j .held .streams) i ≡ firstFailing (needMet j p) (j .held .streams))
+
+abbrev μ-loop : tie.MeasureT-loop
+μ-loop p j streams i₀ i = j .held .streams - i
+
+loop-holds : tie.Need-loop-holds Inv-loop μ-loop
+unfolding firstFailing
+loop-holds c = (omega arith, refl)
+
+mul-need-met : tie.Need-mul-need-met Inv-loop μ-loop
+mul-need-met c = omega (arith, c .before .before .pre .fields .fewStreams)
+
+element-copy-out-need-met : tie.Need-element-copy-out-need-met Inv-loop μ-loop
+element-copy-out-need-met c = omega (arith, c .before .before .pre .fields .fewStreams)
+
+add-green-of : tie.Need-add-green-of Inv-loop μ-loop
+add-green-of c = omega arith
+
+green-of-requires : tie.Need-green-of-requires Inv-loop μ-loop
+green-of-requires c κs = tt
+
+need-met-requires : tie.Need-need-met-requires Inv-loop μ-loop
+need-met-requires c κs = tt
+
+here : (c : tie.After-need-met Inv-loop μ-loop)
+    → c .need-met .result ≡ needMet (c .before .before .before .before .before .args .t1) (c .before .before .before .before .before .args .p) (c .before .before .before .before .loop .i + 1)
+unfolding needMet
+here c =
+    let s = c .before .before .before .before .before in
+    simp (c .need-met .ensures, c .before .green-of .ensures, stream-place (s .args .t1) (s .pre) (c .before .before .before .before .loop .i) (c .before .before .before .loop-test .taken))
+
+returns : tie.Need-returns Inv-loop μ-loop
+returns c =
+    let l = c .before .before .before .before .before .loop in
+    sym (first-found _ _ (l .i) (c .before .before .before .before .loop-test .taken) (ap not (sym (here (c .before))) ∙ c .if1 .taken)) ∙ l .inv .1
+
+add-i : tie.Need-add-i Inv-loop μ-loop
+add-i c = omega arith
+
+loop-less : tie.Need-loop-less Inv-loop μ-loop
+loop-less c = omega arith
+
+loop-again : tie.Need-loop-again Inv-loop μ-loop
+loop-again c =
+    let l = c .before .before .before .before .before .loop in (
+      omega arith,
+      sym (first-next _ _ (l .i) (c .before .before .before .before .loop-test .taken) (ap not (sym (here (c .before))) ∙ c .if1 .left)) ∙ l .inv .1,
+    )
+
+returns-2 : tie.Need-returns-2 Inv-loop μ-loop
+returns-2 c = sym (first-out _ _ (c .before .loop .i) (c .loop-test .left)) ∙ c .before .loop .inv .1
+
+pub first-short-spec : {M : Type 1} → statement M
+first-short-spec =
+    tie.close
+    (tie.spec
+    Inv-loop
+    μ-loop
+    loop-holds
+    mul-need-met
+    element-copy-out-need-met
+    add-green-of
+    green-of-requires
+    need-met-requires
+    returns
+    add-i
+    loop-less
+    loop-again
+    returns-2)

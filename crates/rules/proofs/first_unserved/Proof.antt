@@ -1,0 +1,94 @@
+-- `rules::first_unserved` meets its contract: the invariant is that the first place from here on is the first of all.
+use Prim.Native.Nat.{_+_, _-_, _≤_}
+use mathlib.Core.Bool.{not}
+use mathlib.Core.Path.{_≡_, refl, sym, _∙_, ap}
+use native.Mathlib.Omega.{arith}
+use Rattle.laws.specs.Search.{firstBelow, first-found, first-next, first-out}
+use Rattle.fields.specs.Verdict.{firstFailing}
+use Rattle.tables.specs.Places.{stream-place, load-place}
+use Rattle.rules.specs.Rules.{capacityMet}
+use Rattle.rules.proofs.first_unserved.Statement.{statement}
+use Rattle.rules.proofs.first_unserved.Tie as tie
+
+abbrev Inv-loop : tie.InvT-loop
+Inv-loop p j loads streams i₀ i =
+    (i ≤ j .held .streams)
+    × (firstBelow (λ k. not (capacityMet j p (k + 1))) (j .held .streams) i ≡ firstFailing (capacityMet j p) (j .held .streams))
+
+abbrev μ-loop : tie.MeasureT-loop
+μ-loop p j loads streams i₀ i = j .held .streams - i
+
+loop-holds : tie.Need-loop-holds Inv-loop μ-loop
+unfolding firstFailing
+loop-holds c = (omega arith, refl)
+
+mul-capacity-met : tie.Need-mul-capacity-met Inv-loop μ-loop
+mul-capacity-met c = omega (arith, c .before .before .pre .0 .fields .fewStreams)
+
+element-copy-out-capacity-met : tie.Need-element-copy-out-capacity-met Inv-loop μ-loop
+element-copy-out-capacity-met c = omega (arith, c .before .before .pre .0 .fields .fewStreams)
+
+mul-capacity-met-2 : tie.Need-mul-capacity-met-2 Inv-loop μ-loop
+mul-capacity-met-2 c = omega (arith, c .before .before .before .pre .0 .fields .fewStreams)
+
+element-copy-out-capacity-met-2 : tie.Need-element-copy-out-capacity-met-2 Inv-loop μ-loop
+element-copy-out-capacity-met-2 c = omega (arith, c .before .before .before .pre .0 .fields .fewStreams)
+
+add-green-of : tie.Need-add-green-of Inv-loop μ-loop
+add-green-of c = omega arith
+
+green-of-requires : tie.Need-green-of-requires Inv-loop μ-loop
+green-of-requires c κs = tt
+
+capacity-met-requires : tie.Need-capacity-met-requires Inv-loop μ-loop
+capacity-met-requires c κs = tt
+
+here : (c : tie.After-capacity-met Inv-loop μ-loop)
+    → c .capacity-met .result ≡ capacityMet (c .before .before .before .before .before .before .args .t1) (c .before .before .before .before .before .before .args .p) (c .before .before .before .before .before .loop .i + 1)
+unfolding capacityMet
+here c =
+    let s = c .before .before .before .before .before .before in
+    let i = c .before .before .before .before .before .loop .i in
+    let low = c .before .before .before .before .loop-test .taken in
+    simp (c .capacity-met .ensures, c .before .green-of .ensures, s .pre .1, stream-place (s .args .t1) (s .pre .0) i low, load-place (s .args .t1) (s .pre .0) i low)
+
+returns : tie.Need-returns Inv-loop μ-loop
+returns c =
+    let l = c .before .before .before .before .before .before .loop in
+    sym (first-found _ _ (l .i) (c .before .before .before .before .before .loop-test .taken) (ap not (sym (here (c .before))) ∙ c .if1 .taken)) ∙ l .inv .1
+
+add-i : tie.Need-add-i Inv-loop μ-loop
+add-i c = omega arith
+
+loop-less : tie.Need-loop-less Inv-loop μ-loop
+loop-less c = omega arith
+
+loop-again : tie.Need-loop-again Inv-loop μ-loop
+loop-again c =
+    let l = c .before .before .before .before .before .before .loop in (
+      omega arith,
+      sym (first-next _ _ (l .i) (c .before .before .before .before .before .loop-test .taken) (ap not (sym (here (c .before))) ∙ c .if1 .left)) ∙ l .inv .1,
+    )
+
+returns-2 : tie.Need-returns-2 Inv-loop μ-loop
+returns-2 c = sym (first-out _ _ (c .before .loop .i) (c .loop-test .left)) ∙ c .before .loop .inv .1
+
+pub first-unserved-spec : {M : Type 1} → statement M
+first-unserved-spec =
+    tie.close
+    (tie.spec
+    Inv-loop
+    μ-loop
+    loop-holds
+    mul-capacity-met
+    element-copy-out-capacity-met
+    mul-capacity-met-2
+    element-copy-out-capacity-met-2
+    add-green-of
+    green-of-requires
+    capacity-met-requires
+    returns
+    add-i
+    loop-less
+    loop-again
+    returns-2)

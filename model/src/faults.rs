@@ -1,0 +1,358 @@
+//! Random files that are refused, or nearly: damaged, spliced, with numbers at and past their limits.
+
+use crate::generate::{limit_junction, rich_junction};
+use crate::junction::*;
+use crate::random::Random;
+use std::ops::Range;
+
+/// One to three bytes changed, taken out or put in, or the end cut off.
+pub fn damaged(r: &mut Random, file: &[u8]) -> Vec<u8> {
+    let mut file = file.to_vec();
+    for _ in 0..r.pick(&[1, 1, 1, 2, 3]) {
+        if file.is_empty() {
+            break;
+        }
+        let at = r.from_to(0, file.len() as i64 - 1) as usize;
+        let byte = if r.one_in(2) { r.pick(&[0, 1, 2, 3, 4, 5, 0x11, 0x12, 0x13, 127, 128, 255]) } else { r.from_to(0, 255) as u8 };
+        match r.from_to(1, 8) {
+            1..=3 => file[at] = byte,
+            4 => file[at] = file[at].wrapping_add(1),
+            5 => file[at] = file[at].wrapping_sub(1),
+            6 => { file.remove(at); }
+            7 => file.insert(at, byte),
+            _ => if r.one_in(2) { file.truncate(at) } else { file.push(byte) },
+        }
+    }
+    file
+}
+
+// ---- damage to whole fields, of junction and plan files alike
+
+/// The fields of a file; bytes at the end that are no whole field stand as one.
+pub fn fields(file: &[u8]) -> Vec<Range<usize>> {
+    let mut list = vec![];
+    let mut at = 0;
+    while at < file.len() {
+        let end = if file.len() - at < 3 { file.len() } else { (at + 3 + two(file, at + 1) as usize).min(file.len()) };
+        list.push(at..end);
+        at = end;
+    }
+    list
+}
+
+/// One fault: a field doubled, left out or moved, a wrong length or tag, stray bytes, an end cut off, the end of
+/// another file, or a number at or past its limit.
+pub fn faulty(r: &mut Random, file: &[u8], other: &[u8]) -> Vec<u8> {
+    let list = fields(file);
+    if list.is_empty() {
+        return other[..other.len().min(r.from_to(0, 30) as usize)].to_vec();
+    }
+    let one = list[r.from_to(0, list.len() as i64 - 1) as usize].clone();
+    let two = list[r.from_to(0, list.len() as i64 - 1) as usize].clone();
+    let mut out = file.to_vec();
+    match r.from_to(1, 12) {
+        1 => { out.splice(one.end..one.end, file[one].to_vec()); }
+        2 => { out.drain(one); }
+        3 => {
+            // two fields in each other's place
+            let (first, then) = if one.start < two.start { (one, two) } else { (two, one) };
+            if first != then {
+                out = [&file[..first.start], &file[then.clone()], &file[first.end..then.start], &file[first], &file[then.end..]].concat();
+            }
+        }
+        4 => wrong_length(r, &mut out, one.start),
+        5 => {
+            // a body one byte or some longer or shorter, and its length with it
+            let mut body = file[one.clone()].iter().skip(3).copied().collect::<Vec<u8>>();
+            let size = (body.len() as i64 + r.pick(&[-9, -3, -2, -1, -1, 1, 1, 2, 3, 250])).max(0);
+            body.resize(size as usize, r.from_to(0, 255) as u8);
+            let mut field = vec![file[one.start]];
+            field.extend((size as u16).to_be_bytes());
+            field.extend(body);
+            out.splice(one, field);
+        }
+        6 => out[one.start] = r.pick(&[0, 1, 2, 3, 4, 5, 0x10, 0x11, 0x12, 0x13, 0x81, 255]),
+        7 => {
+            // stray bytes at the end, or a field that does not belong there
+            let stray: &[&[u8]] = &[&[0], &[1], &[4, 0], &[0x12, 0, 5], &[0x12, 255, 255], &[4, 0, 0], &[0, 0, 0], &[5, 0, 1, 0]];
+            out.extend(r.pick(stray));
+        }
+        8 => out.truncate(r.from_to(0, file.len() as i64) as usize),
+        9 => out.truncate(two.start),
+        10 => {
+            // spliced: the beginning of this file and the end of the other, at any place or where fields begin
+            let ends = fields(other);
+            let (cut, from) = if r.one_in(2) || ends.is_empty() {
+                (r.from_to(0, file.len() as i64) as usize, r.from_to(0, other.len() as i64) as usize)
+            } else {
+                (one.start, ends[r.from_to(0, ends.len() as i64 - 1) as usize].start)
+            };
+            out.truncate(cut);
+            out.extend(&other[from..]);
+        }
+        _ => set_number(r, &mut out, one, true),
+    }
+    out
+}
+
+/// The length of the field at this place changed, its body as it was.
+fn wrong_length(r: &mut Random, file: &mut [u8], at: usize) {
+    if file.len() - at >= 3 {
+        let length = two(file, at + 1);
+        let (shorter, longer) = (length.wrapping_sub(1), length.wrapping_add(1));
+        let other = r.pick(&[shorter, longer, 0, 1, length.wrapping_add(256), length.wrapping_mul(256), 65_535]);
+        file[at + 1..at + 3].copy_from_slice(&other.to_be_bytes());
+    }
+}
+
+/// The numbers of a field: offset in the body, bytes, least, greatest.
+fn numbers(tag: u8, body: &[u8]) -> &'static [(usize, usize, u16, u16)] {
+    match (tag, body.first()) {
+        (1, _) => &[(0, 2, 0, 65_535), (2, 2, 0, 65_535)],
+        (2, Some(1)) => &[
+            (0, 1, 1, 4),
+            (1, 1, 1, 6),
+            (2, 1, 3, 5),
+            (3, 1, 0, 1),
+            (4, 2, 0, 9_999),
+            (4, 2, 30, 9_999),
+            (6, 2, 300, 1_500),
+            (8, 1, 1, 2),
+            (9, 1, 0, 20),
+            (10, 1, 1, 3),
+            (11, 1, 0, 100),
+            (12, 1, 0, 100),
+        ],
+        (2, Some(2)) => &[(0, 1, 1, 4), (1, 1, 1, 6), (2, 1, 0, 1), (3, 2, 100, 600), (5, 1, 1, 34)],
+        (2, Some(3)) => &[
+            (0, 1, 1, 4),
+            (1, 1, 1, 6),
+            (2, 1, 12, 15),
+            (3, 2, 10, 600),
+            (5, 2, 0, 9_999),
+            (7, 1, 0, 1),
+            (8, 1, 0, 1),
+        ],
+        (2, Some(4)) => &[(0, 1, 1, 4), (1, 1, 1, 6), (2, 1, 0, 1)],
+        (3, _) => &[
+            (0, 1, 1, 16),
+            (1, 1, 1, 16),
+            (2, 2, 0, 999),
+            (4, 2, 0, 999),
+            (6, 2, 0, 999),
+            (8, 2, 0, 999),
+        ],
+        (4, _) => &[(0, 1, 1, 16), (1, 2, 0, 65_535), (3, 2, 0, 65_535), (5, 2, 1, 9_999)],
+        (0x11, _) => &[(0, 2, 1, 180)],
+        (0x12, _) => &[(0, 1, 1, 16), (1, 2, 0, 179), (3, 2, 1, 180)],
+        _ => &[],
+    }
+}
+
+/// One number of this field at its least or greatest; and, where `past` says so, often just past it or anything.
+fn set_number(r: &mut Random, file: &mut [u8], field: Range<usize>, past: bool) {
+    if field.len() <= 3 {
+        return;
+    }
+    let (tag, cycle) = (file[field.start], if file.len() >= 5 { two(file, 3) } else { 0 });
+    let body = &mut file[field.start + 3..field.end];
+    let list = numbers(tag, body);
+    if list.is_empty() {
+        return;
+    }
+    let (at, bytes, least, mut greatest) = r.pick(list);
+    if at + bytes > body.len() {
+        return;
+    }
+    // a green's start is below the cycle, its length at most the cycle
+    if tag == 0x12 && at > 0 {
+        greatest = cycle.saturating_sub((at == 1) as u16);
+    }
+    let to = match if past { r.from_to(1, 6) } else { r.from_to(1, 2) } {
+        1 => least,
+        2 => greatest,
+        3 => least.wrapping_sub(1),
+        4 | 5 => greatest.wrapping_add(1),
+        _ => r.from_to(0, 65_535) as u16,
+    };
+    if bytes == 1 {
+        body[at] = to as u8;
+    } else {
+        body[at..at + 2].copy_from_slice(&to.to_be_bytes());
+    }
+}
+
+/// Many numbers at their least or greatest at once; now and then one of them is just past.
+pub fn at_the_limits(r: &mut Random, file: &[u8]) -> Vec<u8> {
+    let mut out = file.to_vec();
+    let list = fields(file);
+    let steps = r.pick(&[1, 2, 5, 20]);
+    for _ in 0..steps {
+        let field = list[r.from_to(0, list.len() as i64 - 1) as usize].clone();
+        // kinds, phases and the numbers of streams are mostly left as they are, so that the file is often taken
+        let before = out[field.clone()].to_vec();
+        set_number(r, &mut out, field.clone(), false);
+        let structure = match before[0] { 2 => 3..5, 3 => 3..5, 4 | 0x12 => 3..4, _ => 0..0 };
+        if !r.one_in(20) {
+            out[field.start..][structure.clone()].copy_from_slice(&before[structure]);
+        }
+    }
+    if r.one_in(4) {
+        let field = list[r.from_to(0, list.len() as i64 - 1) as usize].clone();
+        set_number(r, &mut out, field, true);
+    }
+    out
+}
+
+// ---- junction files that aim at one question
+
+/// A junction file at which question `number` (1 to 9) is likely, though not certain, to be the first to refuse.
+pub fn aimed_at(r: &mut Random, number: u8) -> Vec<u8> {
+    let mut j = if r.one_in(6) { limit_junction(r) } else { rich_junction(r) };
+    match number {
+        1 => return large_file(r, &j.to_file()),
+        6 => return one_too_many(r, &mut j),
+        7 => strange_streams(r, &mut j),
+        8 => not_a_whole_junction(r, &mut j),
+        9 => no_usable_count(r, &mut j),
+        _ => {}
+    }
+    let file = j.to_file();
+    let other = rich_junction(r).to_file();
+    match number {
+        2..=5 => faulty(r, &file, &other),
+        8 if r.one_in(20) => file[..r.pick(&[0, 7])].to_vec(),
+        _ => file,
+    }
+}
+
+/// A file of about 16,384 bytes, or many more: counts, zeros or an overlong field after a junction.
+fn large_file(r: &mut Random, file: &[u8]) -> Vec<u8> {
+    let around = [16_381, 16_382, 16_383, 16_384, 16_384, 16_385, 16_385, 16_385, 16_386, 16_387];
+    let size = if r.one_in(4) { r.pick(&[16_400, 32_768, 65_536, 70_000]) } else { r.pick(&around) };
+    let mut out = file.to_vec();
+    match r.from_to(1, 4) {
+        1 => out.resize(size, r.pick(&[0, 1, 4, 255])),
+        2 => {
+            let last = fields(file).last().expect("a heading").clone();
+            while out.len() < size {
+                out.extend(&file[last.clone()]);
+            }
+            out.truncate(size);
+        }
+        3 => {
+            // one last field that fits exactly, as far as its length can say so
+            let body = (size - file.len() - 3).min(65_535);
+            out.push(r.pick(&[2, 3, 4, 5]));
+            out.extend((body as u16).to_be_bytes());
+            out.resize(file.len() + 3 + body, r.from_to(0, 5) as u8);
+        }
+        _ => {
+            // the first field as long as the file
+            out = vec![r.pick(&[1, 2])];
+            out.extend(((size - 3).min(65_535) as u16).to_be_bytes());
+            out.resize(size, 0);
+        }
+    }
+    out
+}
+
+/// A 17th stream, a 65th zone or a 129th count, or just as many as allowed.
+fn one_too_many(r: &mut Random, j: &mut Junction) -> Vec<u8> {
+    let more = r.pick(&[0, 1, 1, 1, 2]) as usize;
+    match r.from_to(1, 3) {
+        1 => {
+            while j.streams.len() < STREAM_LIMIT + more {
+                let again = j.streams[r.from_to(0, j.streams.len() as i64 - 1) as usize];
+                j.streams.push(again);
+                if again.is_car() {
+                    let count_day = j.design_day;
+                    j.counts.push(Count { stream: j.streams.len() as u8, count_day, file_day: 0, flow: 100 });
+                }
+            }
+        }
+        2 if !j.zones.is_empty() => {
+            while j.zones.len() < ZONE_LIMIT + more {
+                j.zones.push(j.zones[r.from_to(0, j.zones.len() as i64 - 1) as usize]);
+            }
+            if r.one_in(4) {
+                let last = j.zones.last_mut().expect("a zone");
+                last.b = r.pick(&[0, 17, 255]);
+            }
+        }
+        _ => {
+            while j.counts.len() < COUNT_LIMIT + more {
+                j.counts.push(j.counts[r.from_to(0, j.counts.len() as i64 - 1) as usize]);
+            }
+            if r.one_in(4) {
+                let last = j.counts.last_mut().expect("a count");
+                last.stream = r.pick(&[0, 17, 255]);
+            }
+        }
+    }
+    let file = j.to_file();
+    if r.one_in(6) { at_the_limits(r, &file) } else { file }
+}
+
+/// A zone or a count with a stream that does not exist, is not meant, or stands in the same phase.
+fn strange_streams(r: &mut Random, j: &mut Junction) {
+    let n = j.streams.len() as i64;
+    let number = r.pick(&[0, 1, n, n + 1, n + 1, 16, 17, 128, 255]) as u8;
+    if r.one_in(2) && !j.zones.is_empty() {
+        let at = r.from_to(0, j.zones.len() as i64 - 1) as usize;
+        let zone = &mut j.zones[at];
+        match r.from_to(1, 5) {
+            1 => zone.a = number,
+            2 => zone.b = number,
+            3 => (zone.a, zone.b) = (zone.b, zone.a),
+            4 => zone.a = zone.b,
+            _ => (zone.a, zone.b) = (r.from_to(1, n) as u8, r.from_to(1, n) as u8),
+        }
+    } else {
+        let at = r.from_to(0, j.counts.len() as i64 - 1) as usize;
+        j.counts[at].stream = if r.one_in(2) { number } else { r.from_to(1, n) as u8 };
+    }
+}
+
+/// A phase not used, one phase alone, or no car.
+fn not_a_whole_junction(r: &mut Random, j: &mut Junction) {
+    match r.from_to(1, 4) {
+        1 => {
+            // one phase left out, its streams in the next or two later
+            let phase = r.from_to(1, j.phases() as i64) as u8;
+            let to = (phase + r.pick(&[1, 2])).min(6);
+            j.streams.iter_mut().filter(|s| s.phase == phase).for_each(|s| s.phase = to);
+        }
+        2 => j.streams.iter_mut().for_each(|s| s.phase = 1),
+        3 => {
+            j.streams.iter_mut().filter(|s| s.is_car()).for_each(|s| s.kind = Kind::Cyclist(Cyclist { reach_counted: false }));
+            j.counts.clear();
+        }
+        _ => {
+            // a beginning of the streams
+            j.streams.truncate(r.from_to(0, j.streams.len() as i64 - 1) as usize);
+            let n = j.streams.len();
+            j.counts.retain(|c| c.stream as usize <= n);
+        }
+    }
+    let n = j.streams.len();
+    let streams = j.streams.clone();
+    j.zones.retain(|z| {
+        let (a, b) = (z.a as usize, z.b as usize);
+        b <= n && streams[a - 1].phase != streams[b - 1].phase
+    });
+}
+
+/// A car whose counts are all after the design day, or that has none.
+fn no_usable_count(r: &mut Random, j: &mut Junction) {
+    let cars: Vec<usize> = (1..=j.streams.len()).filter(|&s| j.stream(s).is_car()).collect();
+    for _ in 0..r.pick(&[1, 1, 2]) {
+        let car = r.pick(&cars) as u8;
+        if r.one_in(2) && j.design_day < 65_535 {
+            let later = j.design_day + 1;
+            j.counts.iter_mut().filter(|c| c.stream == car).for_each(|c| c.count_day = c.count_day.max(later));
+        } else {
+            j.counts.retain(|c| c.stream != car);
+        }
+    }
+}

@@ -1,0 +1,271 @@
+//! Random junctions that are taken, and random plans for them that are well-formed.
+
+use crate::annex::{need, saturation};
+use crate::junction::*;
+use crate::plan::{Green, Plan};
+use crate::random::Random;
+use crate::times::Entries;
+use crate::work_out::work_out;
+
+// ---- junctions
+
+/// A junction that is taken: 2 to 6 phases, up to 16 streams of all kinds, 0 to 64 zones, several zones for a pair.
+pub fn rich_junction(r: &mut Random) -> Junction {
+    let phases = r.pick(&[2, 2, 2, 3, 3, 3, 4, 4, 5, 6]);
+    let most = r.pick(&[phases + 1, phases + 3, phases + 5, 16]).min(16);
+    let streams = r.from_to(phases, most);
+    let pairs = streams * (streams - 1) / 2;
+    let zones = r.pick(&[0, 1, phases, streams, pairs, 2 * pairs, 64]).min(64);
+    let zones = r.from_to(zones / 2, zones);
+    let counts = r.pick(&[1, 1, 2, 4]);
+    make_junction(r, phases, streams, zones, counts)
+}
+
+/// A junction with as many of everything as the file may hold, or as few.
+pub fn limit_junction(r: &mut Random) -> Junction {
+    let (phases, streams) = r.pick(&[(2, 2), (2, 16), (3, 16), (4, 16), (6, 6), (6, 16)]);
+    let zones = r.pick(&[0, 1, 63, 64, 64]);
+    let counts = r.pick(&[1, 8, 128]);
+    make_junction(r, phases, streams, zones, counts)
+}
+
+/// A junction of so many phases, streams and zones, with at most so many counts for each car.
+pub fn make_junction(r: &mut Random, phases: i64, streams: i64, zones: i64, counts_for_each: i64) -> Junction {
+    let design_day = r.pick(&[0, 1, 255, 256, 9000, 9000, 65534, 65535]);
+    let roots = r.one_in(3); // stop trams against standing cars
+    let scale = r.pick(&[20, 60, 150, 400, 999]);
+
+    // every phase used, at least one car
+    let mut list: Vec<Stream> = (0..streams)
+        .map(|i| {
+            let phase = if i < phases { i + 1 } else { r.from_to(1, phases) } as u8;
+            Stream { phase, kind: random_kind(r, roots, i == 0) }
+        })
+        .collect();
+    for i in (1..list.len()).rev() {
+        let other = r.from_to(0, i as i64) as usize;
+        list.swap(i, other);
+    }
+
+    let mut junction = Junction { number: r.from_to(0, 65535) as u16, design_day, streams: list, zones: vec![], counts: vec![] };
+    while (junction.zones.len() as i64) < zones {
+        let a = r.from_to(1, streams - 1) as usize;
+        let b = r.from_to(a as i64 + 1, streams) as usize;
+        // now and then the pair of the zone before again
+        let (a, b) = match junction.zones.last() {
+            Some(z) if r.one_in(4) => (z.a as usize, z.b as usize),
+            _ => (a, b),
+        };
+        if junction.stream(a).phase != junction.stream(b).phase {
+            let (kind_a, kind_b) = (junction.stream(a).kind, junction.stream(b).kind);
+            let (clearing_a, reaching_b) = distances(r, &kind_a, &kind_b, scale);
+            let (clearing_b, reaching_a) = distances(r, &kind_b, &kind_a, scale);
+            junction.zones.push(Zone { a: a as u8, b: b as u8, clearing_a, reaching_a, clearing_b, reaching_b });
+        }
+    }
+
+    let load = r.from_to(10, 100); // how much of the junction is used, in percent
+    let cars: Vec<usize> = (1..=streams as usize).filter(|&s| junction.stream(s).is_car()).collect();
+    let each = counts_for_each.min(COUNT_LIMIT as i64 / cars.len() as i64);
+    for &s in &cars {
+        let Kind::Car(car) = junction.stream(s).kind else { unreachable!() };
+        let fair = saturation(&car) * load / 100 / phases;
+        let usable = r.from_to(0, each - 1);
+        for k in 0..each {
+            let back = r.pick(&[0, 0, 1, 2, 300]);
+            let count_day = if k == usable || r.one_in(2) {
+                design_day.saturating_sub(back)
+            } else {
+                design_day.saturating_add(r.pick(&[0, 1, 2, 300]))
+            };
+            let flow = if r.one_in(30) { r.from_to(1, 9_999) } else { r.from_to(fair / 2 + 1, fair + 1).min(9_999) };
+            junction.counts.push(Count { stream: s as u8, count_day, file_day: r.from_to(0, 65535) as u16, flow: flow as u16 });
+        }
+    }
+    for i in (1..junction.counts.len()).rev() {
+        let other = r.from_to(0, i as i64) as usize;
+        junction.counts.swap(i, other);
+    }
+    junction
+}
+
+fn random_kind(r: &mut Random, roots: bool, must_be_car: bool) -> Kind {
+    let which = if must_be_car { 1 } else if roots { r.pick(&[1, 2, 2]) } else { r.pick(&[1, 1, 2, 3, 3, 4]) };
+    match which {
+        1 => {
+            let radius = if r.one_in(3) { r.pick(&[30, 60, 61, 100, 149, 150, 151, 152, 400, 9999]) } else { 0 };
+            let (left, right) = if radius != 0 || r.one_in(2) {
+                (0, 0)
+            } else {
+                let left = r.pick(&[0, 4, 5, 9, 10, 30, 100]);
+                (left, r.pick(&[0, 1, 5, 10, 40, 100]).min(100 - left))
+            };
+            let widest = r.pick(&[350, 560, 560, 1500]);
+            let width = if r.one_in(2) { 350 } else { r.from_to(300, widest) as u16 };
+            Kind::Car(Car {
+                amber: r.pick(&[3, 3, 4, 5]),
+                flying: !roots && r.one_in(3),
+                radius,
+                width,
+                rows: r.pick(&[1, 2]),
+                gradient: if r.one_in(2) { 0 } else { r.from_to(-10, 10) as i16 },
+                conditions: r.pick(&[1, 2, 2, 3]),
+                left,
+                right,
+            })
+        }
+        2 => Kind::Tram(Tram {
+            from_stop: roots || r.one_in(2),
+            length: if r.one_in(2) { r.pick(&[100, 300, 325, 600]) } else { r.from_to(100, 600) as u16 },
+            trams_an_hour: r.from_to(1, 34) as u8,
+        }),
+        3 => Kind::Pedestrian(Pedestrian {
+            speed: r.from_to(12, 15) as u8,
+            crossing: if r.one_in(3) { r.pick(&[10, 119, 120, 121, 600]) } else { r.from_to(10, 250) as u16 },
+            people: r.pick(&[0, 119, 120, 121, 200, 9999]),
+            reach_counted: r.one_in(2),
+            disturbed: r.one_in(3),
+        }),
+        _ => Kind::Cyclist(Cyclist { reach_counted: r.one_in(2) }),
+    }
+}
+
+/// Clearing distance of the one that leaves, reaching distance of the one that comes: often such that a time is a
+/// whole second, or that two roots are equal, or one decimetre beside that.
+fn distances(r: &mut Random, leaves: &Kind, comes: &Kind, scale: i64) -> (u16, u16) {
+    let mut l = r.from_to(0, scale);
+    let mut d = r.from_to(0, scale);
+    let k = r.from_to(0, 14);
+    if r.one_in(2) {
+        l = match leaves {
+            Kind::Car(c) if c.radius == 0 => 100 * (k % 10) + 40,
+            Kind::Car(c) if c.radius > 150 => 70 * k + 10,
+            Kind::Car(_) => 50 * k + 40,
+            Kind::Tram(t) if t.from_stop => 5 * k * k - t.length as i64,
+            Kind::Tram(_) => l,
+            Kind::Pedestrian(p) => p.speed as i64 * k,
+            Kind::Cyclist(_) => 40 * k,
+        } + r.pick(&[0, 0, -1, 1]);
+    }
+    let l = l.clamp(0, 999);
+    let k = r.from_to(1, 14);
+    if r.one_in(2) {
+        d = match (leaves, comes) {
+            // (l + t)/5 = (r + 15)/10, and (l + t)/5 = (r + 15)/5
+            (Kind::Tram(t), Kind::Car(_)) if t.from_stop && r.one_in(3) => 2 * (l + t.length as i64) - 15,
+            (Kind::Tram(t), Kind::Tram(u)) if t.from_stop && u.from_stop && r.one_in(3) => l + t.length as i64 - 15,
+            (_, Kind::Car(c)) if !c.flying => 10 * k * k - 15,
+            (_, Kind::Tram(t)) if t.from_stop => 5 * k * k - 15,
+            (_, Kind::Pedestrian(_)) => 15 * k,
+            (_, Kind::Cyclist(_)) => 50 * k,
+            _ => d,
+        } + r.pick(&[0, 0, -1, 1]);
+    }
+    (l as u16, d.clamp(0, 999) as u16)
+}
+
+// ---- plans
+
+/// Phase after phase, each stream as soon as the zones allow. Well-formed, and often accepted; the cycle is often as
+/// short as it can be, or one second too short.
+pub fn packed_plan(r: &mut Random, junction: &Junction, entries: &Entries) -> Plan {
+    let n = junction.streams.len();
+    let guess = r.from_to(30, 180);
+    let mut begin = vec![0i64; n + 1];
+    let mut end = vec![0i64; n + 1];
+    let mut placed: Vec<usize> = vec![];
+    let in_conflict = |i: usize, j: usize| {
+        junction.zones.iter().any(|z| (z.a as usize, z.b as usize) == (i.min(j), i.max(j)))
+    };
+    for phase in 1..=junction.phases() {
+        for s in (1..=n).filter(|&s| junction.stream(s).phase == phase) {
+            let kind = &junction.stream(s).kind;
+            let mut length = need(kind, guess);
+            if let Kind::Car(car) = kind {
+                let s_flow = saturation(car);
+                let enough = (junction.flow(s).unwrap() as i64 * guess + s_flow - 1) / s_flow - 1;
+                length = length.max(enough);
+            }
+            begin[s] = placed
+                .iter()
+                .filter(|&&e| in_conflict(e, s))
+                .map(|&e| end[e] + entries.from_to(e, s) as i64)
+                .max()
+                .unwrap_or(0);
+            end[s] = begin[s] + length + r.pick(&[0, 0, 0, 1, 5]);
+        }
+        placed.extend((1..=n).filter(|&s| junction.stream(s).phase == phase));
+    }
+    // the shortest cycle in which each comes back in time
+    let mut least = 1;
+    for z in &junction.zones {
+        let (mut first, mut then) = (z.a as usize, z.b as usize);
+        if begin[first] > begin[then] {
+            (first, then) = (then, first);
+        }
+        least = least.max(end[then] + entries.from_to(then, first) as i64 - begin[first]);
+    }
+    for s in 1..=n {
+        least = least.max(end[s] - begin[s]);
+    }
+    let cycle = match r.from_to(1, 5) {
+        1 => guess,
+        2 => guess.max(least),
+        3 => least - 1,
+        _ => least,
+    }
+    .clamp(1, 180);
+    let turn = if r.one_in(2) { r.from_to(0, cycle - 1) } else { 0 };
+    let greens = (1..=n)
+        .map(|s| Green {
+            start: ((begin[s] + turn) % cycle) as u16,
+            length: (end[s] - begin[s]).clamp(1, cycle) as u16,
+        })
+        .collect();
+    Plan { cycle: cycle as u16, greens }
+}
+
+/// All starts later by the same number of seconds, over the end of the cycle: nothing changes on the street.
+pub fn turned(plan: &Plan, by: u16) -> Plan {
+    let greens = plan.greens.iter().map(|g| Green { start: (g.start + by) % plan.cycle, ..*g }).collect();
+    Plan { greens, ..plan.clone() }
+}
+
+/// One start, one length or the cycle moved by a second; it stays well-formed.
+pub fn moved(r: &mut Random, plan: &Plan) -> Plan {
+    let mut plan = plan.clone();
+    let s = r.from_to(0, plan.greens.len() as i64 - 1) as usize;
+    let c = plan.cycle;
+    match r.from_to(1, 7) {
+        1 | 2 => plan.greens[s].start = (plan.greens[s].start + 1) % c,
+        3 | 4 => plan.greens[s].start = (plan.greens[s].start + c - 1) % c,
+        5 => plan.greens[s].length = (plan.greens[s].length + 1).min(c),
+        6 => plan.greens[s].length = (plan.greens[s].length - 1).max(1),
+        _ => {
+            let cycle = if r.one_in(2) { (c + 1).min(180) } else { (c - 1).max(1) };
+            plan.cycle = cycle;
+            for g in &mut plan.greens {
+                g.start = g.start.min(cycle - 1);
+                g.length = g.length.min(cycle);
+            }
+        }
+    }
+    plan
+}
+
+/// Starts and lengths at random.
+pub fn any_plan(r: &mut Random, junction: &Junction) -> Plan {
+    let cycle = r.from_to(1, 180);
+    let greens = junction
+        .streams
+        .iter()
+        .map(|_| Green { start: r.from_to(0, cycle - 1) as u16, length: r.from_to(1, cycle) as u16 })
+        .collect();
+    Plan { cycle: cycle as u16, greens }
+}
+
+/// The planner's plan, if there is one.
+pub fn worked_plan(junction: &Junction) -> Option<Plan> {
+    let mut buffer = [0; 5 + 8 * STREAM_LIMIT];
+    work_out(&junction.to_file(), &mut buffer).ok().map(|w| w.plan)
+}

@@ -1,0 +1,44 @@
+//! A second implementation of document 01 ("Junction timing by the annex of RD-02-21-2"), written apart from the first.
+//!
+//! It is written by the most direct reading and not for speed, so that it can be read beside the paper:
+//! - `exact`:    seconds as fractions and roots, compared exactly;
+//! - `junction`: the junction file, questions 1 to 9, and the choice of a car's count;
+//! - `times`:    "Times at a zone": leaving, reaching, entry;
+//! - `annex`:    "Needs and flows": Tables 1 and 3, needs, base flow, S and y;
+//! - `plan`:     the plan file, questions 11 to 13;
+//! - `judge`:    "Judging a plan": the rules 15, 16, 17;
+//! - `meaning`:  the same by brute force over three cycles, with neither `off` nor an entry;
+//! - `work_out`: "Working out a plan", questions 21, 22, 23;
+//! - `random`, `generate`, `faults`: random junction and plan files for the tests, taken and refused;
+//! - `cases`:    the text form of the stored test cases.
+
+pub mod annex;
+pub mod cases;
+pub mod exact;
+pub mod faults;
+pub mod generate;
+pub mod judge;
+pub mod junction;
+pub mod meaning;
+pub mod plan;
+pub mod random;
+pub mod times;
+pub mod work_out;
+
+pub use judge::judge;
+pub use junction::{read_junction, Junction};
+pub use meaning::meaning;
+pub use plan::{read_plan, Plan};
+pub use work_out::{work_out, Worked};
+
+/// A refusal is the number of the question and a place: mostly the offset of a field's tag.
+#[derive(Clone, Copy, PartialEq, Eq, Debug)]
+pub struct Refusal {
+    pub number: u8,
+    pub place: usize,
+}
+
+/// Short for writing a refusal.
+pub fn refuse<T>(number: u8, place: usize) -> Result<T, Refusal> {
+    Err(Refusal { number, place })
+}

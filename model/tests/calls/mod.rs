@@ -1,0 +1,258 @@
+//! The library's C entries, and the lent memory that they are called with: it is compared before and after each call.
+#![allow(dead_code)]
+use model::cases::text_of;
+use model::junction::Count;
+use model::random::Random;
+use model::Refusal;
+use std::fmt::Debug;
+
+// ---- the C declarations
+
+#[repr(C)]
+#[derive(Clone, Copy, PartialEq, Eq, Debug)]
+pub struct JudgeAnswer {
+    pub place: usize,
+    pub refusal: u8,
+}
+
+#[repr(C)]
+#[derive(Clone, Copy, PartialEq, Eq, Debug)]
+pub struct PlanAnswer {
+    pub place: usize,
+    pub refusal: u8,
+    pub cycle: u16,
+    pub tried: u16,
+}
+
+#[repr(C)]
+#[derive(Clone, Copy, PartialEq, Eq, Debug)]
+pub struct JunctionAnswer {
+    pub place: usize,
+    pub refusal: u8,
+    pub design_day: u16,
+    pub streams: usize,
+    pub zones: usize,
+    pub counts: usize,
+}
+
+#[repr(C)]
+#[derive(Clone, Copy, PartialEq, Eq, Debug)]
+pub struct Figure {
+    pub place: usize,
+    pub refusal: u8,
+    pub value: u32,
+}
+
+#[repr(C)]
+#[derive(Clone, Copy, PartialEq, Eq, Debug)]
+pub struct CountRecord {
+    pub stream: u8,
+    pub count_day: u16,
+    pub file_day: u16,
+    pub flow: u16,
+}
+
+#[link(name = "givendra", kind = "static")]
+extern "C" {
+    fn givendra_judge(junction: *const u8, junction_length: usize, plan: *const u8, plan_length: usize) -> JudgeAnswer;
+    fn givendra_work_out(junction: *const u8, junction_length: usize, buffer: *mut u8, buffer_length: usize) -> PlanAnswer;
+    fn givendra_read_junction(junction: *const u8, junction_length: usize) -> JunctionAnswer;
+    fn givendra_intergreen(junction: *const u8, junction_length: usize, from: usize, to: usize) -> Figure;
+    fn givendra_need(junction: *const u8, junction_length: usize, stream: usize, cycle: u16) -> Figure;
+    fn givendra_saturation_flow(junction: *const u8, junction_length: usize, stream: usize) -> Figure;
+    fn givendra_flow_ratio(junction: *const u8, junction_length: usize, stream: usize) -> Figure;
+    fn givendra_newest_count(list: *const CountRecord, list_length: usize, stream: usize, design_day: u16) -> Figure;
+}
+
+// ---- lent memory
+
+/// Bytes that are lent, in memory of their own with other bytes before and after them.
+pub struct Lent {
+    memory: Vec<u8>,
+    /// The memory as it was lent.
+    before: Vec<u8>,
+    from: usize,
+    to: usize,
+}
+
+impl Lent {
+    /// The neighbours are zeros, all ones, random bytes, or bytes that would go on as fields of a file.
+    pub fn new(r: &mut Random, bytes: &[u8]) -> Lent {
+        let from = r.from_to(16, 47) as usize;
+        let to = from + bytes.len();
+        let end = to + r.from_to(16, 47) as usize;
+        let mut memory = Vec::with_capacity(end);
+        neighbours(r, &mut memory, from);
+        memory.extend(bytes);
+        neighbours(r, &mut memory, end);
+        Lent { before: memory.clone(), memory, from, to }
+    }
+
+    pub fn bytes(&self) -> &[u8] {
+        &self.memory[self.from..self.to]
+    }
+
+    fn length(&self) -> usize {
+        self.to - self.from
+    }
+
+    fn pointer(&self) -> *const u8 {
+        self.memory[self.from..].as_ptr()
+    }
+
+    fn pointer_to_write(&mut self) -> *mut u8 {
+        self.memory[self.from..].as_mut_ptr()
+    }
+
+    pub fn as_lent(&self) -> bool {
+        self.memory == self.before
+    }
+
+    pub fn neighbours_as_lent(&self) -> bool {
+        self.memory[..self.from] == self.before[..self.from] && self.memory[self.to..] == self.before[self.to..]
+    }
+}
+
+/// Bytes up to this length of the memory.
+fn neighbours(r: &mut Random, memory: &mut Vec<u8>, length: usize) {
+    const COUNT: [u8; 10] = [4, 0, 7, 1, 0, 0, 0, 0, 2, 0x58];
+    const ZONE: [u8; 13] = [3, 0, 10, 1, 2, 0, 0x8c, 0, 0x4b, 0, 0x46, 0, 0];
+    const CYCLIST: [u8; 6] = [2, 0, 3, 4, 1, 0];
+    const GREEN: [u8; 8] = [0x12, 0, 5, 2, 0, 0, 0, 0x23];
+    match r.from_to(1, 7) {
+        1 => memory.resize(length, 0),
+        2 => memory.resize(length, 255),
+        3 => memory.resize_with(length, || r.any() as u8),
+        n => {
+            let field: &[u8] = [&COUNT[..], &ZONE, &CYCLIST, &GREEN][n as usize - 4];
+            let start = memory.len();
+            memory.extend((start..length).map(|i| field[(i - start) % field.len()]));
+        }
+    }
+}
+
+// ---- the calls
+
+pub fn judge(junction: &Lent, plan: &Lent) -> JudgeAnswer {
+    let answer = unsafe { givendra_judge(junction.pointer(), junction.length(), plan.pointer(), plan.length()) };
+    assert_lent("judge", &[junction, plan]);
+    answer
+}
+
+pub fn work_out(junction: &Lent, buffer: &mut Lent) -> PlanAnswer {
+    let (pointer, length) = (buffer.pointer_to_write(), buffer.length());
+    let answer = unsafe { givendra_work_out(junction.pointer(), junction.length(), pointer, length) };
+    assert_lent("work_out", &[junction]);
+    assert!(buffer.neighbours_as_lent(), "work_out wrote outside its buffer\njunction {}", text_of(junction.bytes()));
+    answer
+}
+
+pub fn read_junction(junction: &Lent) -> JunctionAnswer {
+    let answer = unsafe { givendra_read_junction(junction.pointer(), junction.length()) };
+    assert_lent("read_junction", &[junction]);
+    answer
+}
+
+pub fn intergreen(junction: &Lent, from: usize, to: usize) -> Figure {
+    unsafe { givendra_intergreen(junction.pointer(), junction.length(), from, to) }
+}
+
+pub fn need(junction: &Lent, stream: usize, cycle: u16) -> Figure {
+    unsafe { givendra_need(junction.pointer(), junction.length(), stream, cycle) }
+}
+
+pub fn saturation_flow(junction: &Lent, stream: usize) -> Figure {
+    unsafe { givendra_saturation_flow(junction.pointer(), junction.length(), stream) }
+}
+
+pub fn flow_ratio(junction: &Lent, stream: usize) -> Figure {
+    unsafe { givendra_flow_ratio(junction.pointer(), junction.length(), stream) }
+}
+
+/// Other records stand before and after the list, which must not be used.
+pub fn newest_count(before: &[Count], list: &[Count], after: &[Count], stream: usize, design_day: u16) -> Figure {
+    let record = |c: &Count| CountRecord { stream: c.stream, count_day: c.count_day, file_day: c.file_day, flow: c.flow };
+    let memory: Vec<CountRecord> = before.iter().chain(list).chain(after).map(record).collect();
+    let copy = memory.clone();
+    let answer = unsafe { givendra_newest_count(memory[before.len()..].as_ptr(), list.len(), stream, design_day) };
+    assert_eq!(memory, copy, "newest_count changed a record");
+    answer
+}
+
+fn assert_lent(entry: &str, files: &[&Lent]) {
+    for file in files {
+        assert!(file.as_lent(), "{entry} changed lent memory around or in {}", text_of(file.bytes()));
+    }
+}
+
+// ---- the model's answers in the library's form
+
+pub fn judged(answer: Result<(), Refusal>) -> JudgeAnswer {
+    let (refusal, place) = number_and_place(&answer);
+    JudgeAnswer { place, refusal }
+}
+
+pub fn figure(answer: Result<u32, Refusal>) -> Figure {
+    let (refusal, place) = number_and_place(&answer);
+    Figure { place, refusal, value: answer.unwrap_or(0) }
+}
+
+pub fn number_and_place<T>(answer: &Result<T, Refusal>) -> (u8, usize) {
+    answer.as_ref().err().map_or((0, 0), |e| (e.number, e.place))
+}
+
+/// Stops the test where library and model differ, with all that is needed to repeat it.
+#[track_caller]
+pub fn same<T: PartialEq + Debug>(what: &str, library: T, model: T, junction: &[u8], plan: &[u8]) {
+    if library != model {
+        panic!(
+            "{what}\nlibrary {library:?}\nmodel   {model:?}\njunction {}\nplan {}",
+            text_of(junction),
+            text_of(plan)
+        );
+    }
+}
+
+// ---- hits
+
+/// How often each answer was given: 0 stands for an answer without refusal.
+pub struct Hits {
+    names: Vec<&'static str>,
+    counts: Vec<[usize; 24]>,
+}
+
+impl Hits {
+    pub fn new(names: &[&'static str]) -> Hits {
+        Hits { names: names.to_vec(), counts: vec![[0; 24]; names.len()] }
+    }
+
+    pub fn hit(&mut self, name: &str, refusal: u8) {
+        let at = self.names.iter().position(|n| *n == name).expect("a column");
+        self.counts[at][refusal as usize] += 1;
+    }
+
+    pub fn of(&self, name: &str, refusal: u8) -> usize {
+        let at = self.names.iter().position(|n| *n == name).expect("a column");
+        self.counts[at][refusal as usize]
+    }
+
+    pub fn print(&self) {
+        let heads: String = self.names.iter().map(|n| format!("{n:>17}")).collect();
+        println!("{:>7}{heads}", "refusal");
+        for number in 0..24 {
+            if self.counts.iter().any(|c| c[number] > 0) {
+                let row: String = self.counts.iter().map(|c| format!("{:>17}", c[number])).collect();
+                println!("{:>7}{row}", if number == 0 { "none".to_string() } else { number.to_string() });
+            }
+        }
+        let sums: String = self.counts.iter().map(|c| format!("{:>17}", c.iter().sum::<usize>())).collect();
+        println!("{:>7}{sums}", "all");
+    }
+
+    /// Each of these answers came at least so often.
+    pub fn at_least(&self, times: usize, name: &str, refusals: &[u8]) {
+        for &number in refusals {
+            assert!(self.of(name, number) >= times, "{name}: {number} came {} times", self.of(name, number));
+        }
+    }
+}

@@ -1,0 +1,424 @@
+//! The proved library, called through its C entries, against the model.
+mod calls;
+use calls::*;
+use model::annex::{need as model_need, saturation, y_of, TABLE_3};
+use model::faults::*;
+use model::generate::*;
+use model::judge::rules;
+use model::junction::{Junction, Kind};
+use model::random::{seed, Random};
+use model::times::Entries;
+use model::work_out::{search, write, Worked};
+use model::{meaning, read_plan, Plan, Refusal};
+
+/// What the model says of a junction file: worked out once, asked often.
+struct Known {
+    read: Result<Junction, Refusal>,
+    /// Only where the file is taken.
+    entries: Option<Entries>,
+    worked: Result<Worked, Refusal>,
+}
+
+impl Known {
+    fn of(file: &[u8]) -> Known {
+        let read = model::read_junction(file);
+        let entries = read.as_ref().ok().map(Entries::of);
+        let worked = match &read {
+            Ok(junction) => search(junction, entries.as_ref().unwrap()),
+            Err(refusal) => Err(*refusal),
+        };
+        Known { read, entries, worked }
+    }
+
+    fn judge(&self, plan: &[u8]) -> Result<(), Refusal> {
+        let junction = self.read.as_ref().map_err(|e| *e)?;
+        let plan = read_plan(plan, junction)?;
+        rules(junction, &plan, self.entries.as_ref().unwrap())
+    }
+
+    fn work_out(&self, buffer: &mut [u8]) -> Result<&Worked, Refusal> {
+        let worked = self.worked.as_ref().map_err(|e| *e)?;
+        write(worked, buffer)?;
+        Ok(worked)
+    }
+}
+
+// ---- the checks of one file
+
+fn check_reading(hits: &mut Hits, file: &Lent, known: &Known) {
+    let (refusal, place) = number_and_place(&known.read);
+    let model = match &known.read {
+        Ok(j) => JunctionAnswer {
+            place,
+            refusal,
+            design_day: j.design_day,
+            streams: j.streams.len(),
+            zones: j.zones.len(),
+            counts: j.counts.len(),
+        },
+        Err(_) => JunctionAnswer { place, refusal, design_day: 0, streams: 0, zones: 0, counts: 0 },
+    };
+    same("read_junction", read_junction(file), model, file.bytes(), &[]);
+    hits.hit("read_junction", refusal);
+}
+
+fn check_judging(hits: &mut Hits, junction: &Lent, plan: &Lent, known: &Known) {
+    let model = judged(known.judge(plan.bytes()));
+    same("judge", judge(junction, plan), model, junction.bytes(), plan.bytes());
+    hits.hit("judge", model.refusal);
+}
+
+/// The planner in a buffer of this size: answer, every byte of the buffer, and the bounds of the tried count.
+fn check_working_out(r: &mut Random, hits: &mut Hits, junction: &Lent, size: usize, known: &Known) {
+    let room: Vec<u8> = (0..size).map(|_| r.any() as u8).collect();
+    let mut buffer = Lent::new(r, &room);
+    let answer = work_out(junction, &mut buffer);
+    let mut wanted = room;
+    let model = known.work_out(&mut wanted);
+    let (refusal, place) = number_and_place(&model);
+    let (cycle, least, most) = model.map_or((0, 0, 0), |w| (w.cycle as u16, w.tried_at_least as u16, w.tried as u16));
+    // the tried count is free within its bounds
+    let tried = answer.tried.clamp(least, most);
+    let what = format!("work_out in {size} bytes, tried from {least} to {most}");
+    same(&what, answer, PlanAnswer { place, refusal, cycle, tried }, junction.bytes(), &[]);
+    same(&what, buffer.bytes(), &wanted[..], junction.bytes(), &[]);
+    hits.hit("work_out", refusal);
+}
+
+/// Buffers one byte too short, exact, longer, and empty or of another size.
+fn check_buffers(r: &mut Random, hits: &mut Hits, junction: &Lent, known: &Known) {
+    let exact = known.read.as_ref().map_or(21, |j| 5 + 8 * j.streams.len());
+    for size in [exact - 1, exact, exact + r.from_to(1, 60) as usize, r.pick(&[0, 1, 20, 133])] {
+        check_working_out(r, hits, junction, size, known);
+    }
+}
+
+/// A plan that the library worked out is accepted by its own judge, by the model's and by the meaning.
+fn check_own_plan(r: &mut Random, junction: &Lent, known: &Known) {
+    let (Ok(j), Ok(_)) = (&known.read, &known.worked) else { return };
+    let mut buffer = Lent::new(r, &vec![0; 5 + 8 * j.streams.len()]);
+    work_out(junction, &mut buffer);
+    let file = buffer.bytes().to_vec();
+    let plan = Lent::new(r, &file);
+    same("the library's own plan, judge", judge(junction, &plan), judged(Ok(())), junction.bytes(), &file);
+    same("the library's own plan, model", known.judge(&file), Ok(()), junction.bytes(), &file);
+    let read = read_plan(&file, j).expect("well-formed");
+    same("the library's own plan, meaning", true, meaning(j, &read), junction.bytes(), &file);
+}
+
+// ---- files
+
+/// A plan file for this junction: worked out, packed, turned, moved or at random.
+fn some_plan(r: &mut Random, junction: &Junction, known: &Known) -> Plan {
+    let entries = known.entries.as_ref().expect("a junction that is taken");
+    let plan = match (&known.worked, r.from_to(1, 8)) {
+        (Ok(w), 1..=4) => w.plan.clone(),
+        (_, 8) => any_plan(r, junction),
+        _ => packed_plan(r, junction, entries),
+    };
+    let by = r.from_to(0, plan.cycle as i64 - 1) as u16;
+    match r.from_to(1, 4) {
+        1 => turned(&plan, by),
+        2 => moved(r, &plan),
+        3 => moved(r, &turned(&plan, by)),
+        _ => plan,
+    }
+}
+
+/// The plan file with a fault, or with numbers at their limits, or very long.
+fn faulty_plan(r: &mut Random, file: &[u8], other: &[u8]) -> Vec<u8> {
+    match r.from_to(1, 10) {
+        1 | 2 => damaged(r, file),
+        3 => at_the_limits(r, file),
+        4 if r.one_in(20) => {
+            let mut long = file.to_vec();
+            long.resize(r.pick(&[16_384, 16_385, 65_536, 70_000]), r.pick(&[0, 0x12, 255]));
+            long
+        }
+        5 if r.one_in(20) => {
+            let mut long = vec![0x11, 255, 255];
+            long.resize(r.from_to(65_537, 65_539) as usize, 0);
+            long
+        }
+        6 => {
+            let once = faulty(r, file, other);
+            faulty(r, &once, other)
+        }
+        _ => faulty(r, file, other),
+    }
+}
+
+/// A junction file that is probably refused.
+fn faulty_junction(r: &mut Random) -> Vec<u8> {
+    match r.from_to(1, 14) {
+        n @ 1..=9 => aimed_at(r, n as u8),
+        10 => {
+            let file = rich_junction(r).to_file();
+            damaged(r, &file)
+        }
+        11 => {
+            let file = if r.one_in(2) { limit_junction(r) } else { rich_junction(r) }.to_file();
+            at_the_limits(r, &file)
+        }
+        12 => {
+            let number = r.from_to(2, 9) as u8;
+            let file = aimed_at(r, number);
+            damaged(r, &file)
+        }
+        _ => {
+            let number = r.from_to(2, 9) as u8;
+            let (file, other) = (aimed_at(r, number), rich_junction(r).to_file());
+            faulty(r, &file, &other)
+        }
+    }
+}
+
+const JUNCTION: [u8; 9] = [1, 2, 3, 4, 5, 6, 7, 8, 9];
+
+const PAIRS: usize = 250_000;
+
+/// Pairs of files of every sort: reading, judging and working out.
+#[test]
+fn files() {
+    let mut r = Random::new(seed("files", 11));
+    let mut hits = Hits::new(&["judge", "read_junction", "work_out"]);
+    let mut pairs = 0;
+    while pairs < PAIRS {
+        if r.one_in(8) {
+            let junction = if r.one_in(8) { limit_junction(&mut r) } else { rich_junction(&mut r) };
+            let file = junction.to_file();
+            let file = if r.one_in(6) { at_the_limits(&mut r, &file) } else { file };
+            pairs += check_with_plans(&mut r, &mut hits, &file);
+        } else {
+            let file = faulty_junction(&mut r);
+            let planned = rich_junction(&mut r);
+            let plan = any_plan(&mut r, &planned).to_file();
+            let known = Known::of(&file);
+            if known.read.is_ok() {
+                pairs += check_with_plans(&mut r, &mut hits, &file);
+            }
+            let (lent, plan) = (Lent::new(&mut r, &file), Lent::new(&mut r, &plan));
+            check_reading(&mut hits, &lent, &known);
+            check_judging(&mut hits, &lent, &plan, &known);
+            let size = r.pick(&[0, 20, 21, 133, 140]);
+            check_working_out(&mut r, &mut hits, &lent, size, &known);
+            pairs += 1;
+        }
+    }
+    println!("{pairs} pairs of junction and plan file");
+    hits.print();
+    hits.at_least(1_000, "judge", &JUNCTION);
+    hits.at_least(1_000, "judge", &[0, 11, 12, 13, 15, 16, 17]);
+    hits.at_least(1_000, "read_junction", &JUNCTION);
+    hits.at_least(1_000, "read_junction", &[0]);
+    hits.at_least(1_000, "work_out", &JUNCTION);
+    hits.at_least(1_000, "work_out", &[0, 21, 22, 23]);
+}
+
+/// A junction file that is probably taken, with plans of every sort; the number of pairs.
+fn check_with_plans(r: &mut Random, hits: &mut Hits, file: &[u8]) -> usize {
+    let known = Known::of(file);
+    let lent = Lent::new(r, file);
+    check_reading(hits, &lent, &known);
+    check_buffers(r, hits, &lent, &known);
+    check_own_plan(r, &lent, &known);
+    let Ok(junction) = &known.read else { return 0 };
+    let other_junction = rich_junction(r);
+    let mut other = any_plan(r, &other_junction).to_file();
+    const PLANS: usize = 16;
+    for i in 0..PLANS {
+        let good = some_plan(r, junction, &known).to_file();
+        let plan = if i % 2 == 0 { good.clone() } else { faulty_plan(r, &good, &other) };
+        let (lent, plan) = (Lent::new(r, file), Lent::new(r, &plan));
+        check_judging(hits, &lent, &plan, &known);
+        other = good;
+    }
+    PLANS
+}
+
+/// The library's judge accepts exactly the well-formed plans that the meaning of demand 3 allows: greens of three
+/// cycles, one by one, with neither an offset in the cycle nor an entry.
+#[test]
+fn judge_and_meaning() {
+    let mut r = Random::new(seed("judge_and_meaning", 12));
+    let mut hits = Hits::new(&["judge", "worked out"]);
+    let mut pairs = 0;
+    while pairs < 150_000 {
+        let junction = if r.one_in(12) { limit_junction(&mut r) } else { rich_junction(&mut r) };
+        let file = junction.to_file();
+        let known = Known::of(&file);
+        let lent = Lent::new(&mut r, &file);
+        check_own_plan(&mut r, &lent, &known);
+        hits.hit("worked out", number_and_place(&known.worked).0);
+        for _ in 0..20 {
+            let plan = some_plan(&mut r, &junction, &known);
+            let plan_file = plan.to_file();
+            let answer = judge(&lent, &Lent::new(&mut r, &plan_file));
+            let allowed = meaning(&junction, &plan);
+            same("judge against the meaning", answer.refusal == 0, allowed, &file, &plan_file);
+            same("judge", answer, judged(known.judge(&plan_file)), &file, &plan_file);
+            hits.hit("judge", answer.refusal);
+            pairs += 1;
+        }
+    }
+    println!("{pairs} pairs of junction and well-formed plan");
+    hits.print();
+    hits.at_least(5_000, "judge", &[0, 15, 16, 17]);
+    hits.at_least(5_000, "worked out", &[0]);
+}
+
+// ---- figures
+
+/// Streams of the junction and others that do not exist.
+fn stream_numbers(streams: usize) -> Vec<usize> {
+    let mut list: Vec<usize> = (0..=streams + 1).collect();
+    list.extend([16, 17, 255, 256, 257, 65_536, 65_537, 1 << 32, (1 << 32) + 1, usize::MAX - 1, usize::MAX]);
+    list
+}
+
+/// Cycles from 0 on: all of Table 3's limits and one beside, the limits of a cycle, and others.
+fn cycles(r: &mut Random) -> Vec<u16> {
+    let mut list = vec![0, 1, 2, 120, 121, 179, 180, 181, 182, 255, 256, 257, 32_768, 65_535];
+    for limit in TABLE_3 {
+        list.push((limit + r.from_to(-1, 1)) as u16);
+    }
+    for _ in 0..10 {
+        list.push(r.from_to(1, 180) as u16);
+    }
+    list
+}
+
+fn known_stream(junction: &Junction, stream: usize) -> Result<Kind, Refusal> {
+    if stream < 1 || stream > junction.streams.len() {
+        return Err(Refusal { number: 7, place: stream });
+    }
+    Ok(junction.stream(stream).kind)
+}
+
+fn model_figure_of_car(junction: &Junction, stream: usize, figure: fn(&model::junction::Car, u16) -> i64) -> Result<u32, Refusal> {
+    match known_stream(junction, stream)? {
+        Kind::Car(car) => Ok(figure(&car, junction.flow(stream).expect("question 9")) as u32),
+        _ => Err(Refusal { number: 7, place: stream }),
+    }
+}
+
+fn model_need_of(junction: &Junction, stream: usize, cycle: u16) -> Result<u32, Refusal> {
+    let kind = known_stream(junction, stream)?;
+    if cycle < 1 || cycle > 180 {
+        return Err(Refusal { number: 13, place: 0 });
+    }
+    Ok(model_need(&kind, cycle as i64) as u32)
+}
+
+fn model_intergreen(junction: &Junction, entries: &Entries, from: usize, to: usize) -> Result<u32, Refusal> {
+    known_stream(junction, from)?;
+    known_stream(junction, to)?;
+    Ok(entries.from_to(from, to) as u32)
+}
+
+/// All figures of one junction file that is taken.
+fn check_figures(r: &mut Random, hits: &mut Hits, file: &[u8], known: &Known) {
+    let lent = Lent::new(r, file);
+    let (j, entries) = (known.read.as_ref().expect("taken"), known.entries.as_ref().expect("taken"));
+    let numbers = stream_numbers(j.streams.len());
+    for &from in &numbers {
+        for &to in &numbers {
+            let model = figure(model_intergreen(j, entries, from, to));
+            same(&format!("intergreen from {from} to {to}"), intergreen(&lent, from, to), model, file, &[]);
+            hits.hit("intergreen", model.refusal);
+        }
+        let exists = (1..=j.streams.len()).contains(&from);
+        for cycle in if exists { cycles(r) } else { vec![0, 50, 181] } {
+            let model = figure(model_need_of(j, from, cycle));
+            same(&format!("need of {from} at {cycle}"), need(&lent, from, cycle), model, file, &[]);
+            hits.hit("need", model.refusal);
+        }
+        let model = figure(model_figure_of_car(j, from, |car, _| saturation(car)));
+        same(&format!("saturation_flow of {from}"), saturation_flow(&lent, from), model, file, &[]);
+        hits.hit("saturation_flow", model.refusal);
+        let model = figure(model_figure_of_car(j, from, y_of));
+        same(&format!("flow_ratio of {from}"), flow_ratio(&lent, from), model, file, &[]);
+        hits.hit("flow_ratio", model.refusal);
+    }
+    assert!(lent.as_lent(), "a figure's entry changed its file");
+}
+
+/// The junction's refusal comes first, whatever is asked.
+fn check_refused_figures(r: &mut Random, hits: &mut Hits, file: &[u8], refusal: Refusal) {
+    let lent = Lent::new(r, file);
+    let model = figure(Err(refusal));
+    let (from, to) = (r.pick(&[0, 1, 2, usize::MAX]), r.pick(&[0, 1, 2, usize::MAX]));
+    same("intergreen", intergreen(&lent, from, to), model, file, &[]);
+    same("need", need(&lent, from, r.pick(&[0, 50, 181])), model, file, &[]);
+    same("saturation_flow", saturation_flow(&lent, from), model, file, &[]);
+    same("flow_ratio", flow_ratio(&lent, from), model, file, &[]);
+    assert!(lent.as_lent(), "a figure's entry changed its file");
+    hits.hit("refused file", refusal.number);
+}
+
+#[test]
+fn figures() {
+    let mut r = Random::new(seed("figures", 13));
+    let mut hits = Hits::new(&["intergreen", "need", "saturation_flow", "flow_ratio", "refused file"]);
+    for _ in 0..5_000 {
+        let file = if r.one_in(8) { limit_junction(&mut r) } else { rich_junction(&mut r) }.to_file();
+        let file = if r.one_in(4) { at_the_limits(&mut r, &file) } else { file };
+        let known = Known::of(&file);
+        match known.read {
+            Ok(_) => check_figures(&mut r, &mut hits, &file, &known),
+            Err(refusal) => check_refused_figures(&mut r, &mut hits, &file, refusal),
+        }
+    }
+    while JUNCTION.iter().any(|&n| hits.of("refused file", n) < 1_000) {
+        let file = faulty_junction(&mut r);
+        if let Err(refusal) = model::read_junction(&file) {
+            check_refused_figures(&mut r, &mut hits, &file, refusal);
+        }
+    }
+    hits.print();
+    for name in ["intergreen", "need", "saturation_flow", "flow_ratio"] {
+        hits.at_least(1_000, name, &[0, 7]);
+    }
+    hits.at_least(1_000, "need", &[13]);
+    hits.at_least(1_000, "refused file", &JUNCTION);
+}
+
+// ---- file days
+
+/// Other file days, and no answer of any entry changes.
+#[test]
+fn file_days() {
+    let mut r = Random::new(seed("file_days", 14));
+    let mut hits = Hits::new(&["judge", "work_out"]);
+    for _ in 0..4_000 {
+        let junction = if r.one_in(12) { limit_junction(&mut r) } else { rich_junction(&mut r) };
+        let mut other = junction.clone();
+        for c in &mut other.counts {
+            c.file_day = r.pick(&[0, c.count_day, c.count_day.wrapping_add(1), junction.design_day, 65_535]);
+        }
+        let plan = packed_plan(&mut r, &junction, &Entries::of(&junction)).to_file();
+        let plan = if r.one_in(8) { damaged(&mut r, &plan) } else { plan };
+        let (one, two) = (Lent::new(&mut r, &junction.to_file()), Lent::new(&mut r, &other.to_file()));
+        let plan = Lent::new(&mut r, &plan);
+        let answer = judge(&one, &plan);
+        same("judge with other file days", judge(&two, &plan), answer, one.bytes(), plan.bytes());
+        hits.hit("judge", answer.refusal);
+        same("read_junction with other file days", read_junction(&two), read_junction(&one), one.bytes(), &[]);
+        let (mut a, mut b) = (Lent::new(&mut r, &[7; 133]), Lent::new(&mut r, &[7; 133]));
+        let answer = work_out(&one, &mut a);
+        same("work_out with other file days", work_out(&two, &mut b), answer, one.bytes(), &[]);
+        same("the plan with other file days", b.bytes(), a.bytes(), one.bytes(), &[]);
+        hits.hit("work_out", answer.refusal);
+        for s in 1..=junction.streams.len() {
+            let t = r.from_to(1, junction.streams.len() as i64) as usize;
+            let cycle = r.from_to(1, 180) as u16;
+            same("intergreen with other file days", intergreen(&two, s, t), intergreen(&one, s, t), one.bytes(), &[]);
+            same("need with other file days", need(&two, s, cycle), need(&one, s, cycle), one.bytes(), &[]);
+            same("saturation_flow with other file days", saturation_flow(&two, s), saturation_flow(&one, s), one.bytes(), &[]);
+            same("flow_ratio with other file days", flow_ratio(&two, s), flow_ratio(&one, s), one.bytes(), &[]);
+        }
+    }
+    hits.print();
+    hits.at_least(1_000, "judge", &[0]);
+    hits.at_least(1_000, "work_out", &[0]);
+}

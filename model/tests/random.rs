@@ -1,0 +1,258 @@
+//! Random junctions and plans: the judge against the meaning, the planner against the judge.
+use model::exact::{fraction, Time};
+use model::faults::damaged;
+use model::generate::*;
+use model::judge::rules;
+use model::junction::{read_junction, Kind};
+use model::meaning::meaning_over;
+use model::random::{seed, Random};
+use model::times::{entry, leaving, reaching, Entries};
+use model::{judge, meaning, read_plan, work_out};
+use std::collections::BTreeMap;
+
+#[test]
+fn judge_accepts_exactly_what_the_meaning_allows() {
+    let mut r = Random::new(seed("judge_and_meaning", 1));
+    let mut answers: BTreeMap<u8, usize> = BTreeMap::new();
+    let (mut pairs, mut junctions, mut worked_out, mut wrapped) = (0, 0, 0, 0);
+    while pairs < 240_000 {
+        let junction = if r.one_in(12) { limit_junction(&mut r) } else { rich_junction(&mut r) };
+        let file = junction.to_file();
+        assert_eq!(read_junction(&file).as_ref(), Ok(&junction));
+        junctions += 1;
+        let entries = Entries::of(&junction);
+        let mut plans = vec![];
+        if let Some(plan) = worked_plan(&junction) {
+            assert_eq!(judge(&file, &plan.to_file()), Ok(()));
+            worked_out += 1;
+            plans.push(plan.clone());
+            let by = r.from_to(0, plan.cycle as i64 - 1) as u16;
+            plans.push(turned(&plan, by));
+            plans.push(moved(&mut r, &plans[1]));
+            plans.push(moved(&mut r, &plans[2]));
+            for _ in 0..4 {
+                plans.push(moved(&mut r, &plan));
+            }
+        }
+        for _ in 0..4 {
+            let plan = packed_plan(&mut r, &junction, &entries);
+            plans.push(moved(&mut r, &plan));
+            plans.push(moved(&mut r, &plan));
+            plans.push(plan);
+        }
+        plans.push(any_plan(&mut r, &junction));
+        for (i, plan) in plans.iter().enumerate() {
+            let plan_file = plan.to_file();
+            assert_eq!(read_plan(&plan_file, &junction).as_ref(), Ok(plan));
+            // the judge over the files; for most plans its rules with the entries at hand, to save time
+            let judged = if i < 3 { judge(&file, &plan_file) } else { rules(&junction, plan, &entries) };
+            assert_eq!(judged.is_ok(), meaning(&junction, plan), "{junction:?} {plan:?}");
+            *answers.entry(judged.err().map_or(0, |e| e.number)).or_default() += 1;
+            if judged.is_ok() && plan.greens.iter().any(|g| g.start + g.length > plan.cycle) {
+                wrapped += 1;
+            }
+            pairs += 1;
+        }
+    }
+    println!("{pairs} pairs, {junctions} junctions, {worked_out} worked out, accepted and past the end {wrapped}, answers {answers:?}");
+    // the test says something only if all answers come often
+    for number in [0, 15, 16, 17] {
+        assert!(answers[&number] > 5_000, "{answers:?}");
+    }
+    assert!(wrapped > 5_000 && worked_out > 2_000);
+}
+
+#[test]
+fn two_cycles_show_everything_and_one_does_not() {
+    let mut r = Random::new(seed("cycles", 2));
+    let mut only_over_the_end = 0;
+    for _ in 0..1_500 {
+        let junction = rich_junction(&mut r);
+        let entries = Entries::of(&junction);
+        let plan = packed_plan(&mut r, &junction, &entries);
+        let plan = if r.one_in(2) { moved(&mut r, &plan) } else { plan };
+        let said = meaning(&junction, &plan);
+        for n in [2, 4, 7] {
+            assert_eq!(meaning_over(&junction, &plan, n), said);
+        }
+        if meaning_over(&junction, &plan, 1) && !said {
+            only_over_the_end += 1;
+        }
+    }
+    assert!(only_over_the_end > 10, "{only_over_the_end}");
+}
+
+#[test]
+fn damaged_files_get_the_same_sort_of_answer() {
+    let mut r = Random::new(seed("damaged_files", 3));
+    let mut answers: BTreeMap<u8, usize> = BTreeMap::new();
+    for _ in 0..40_000 {
+        let junction = if r.one_in(8) { limit_junction(&mut r) } else { rich_junction(&mut r) };
+        let mut file = junction.to_file();
+        let mut plan = any_plan(&mut r, &junction).to_file();
+        if r.one_in(2) {
+            file = damaged(&mut r, &file);
+        } else {
+            plan = damaged(&mut r, &plan);
+        }
+        let answer = judge(&file, &plan);
+        *answers.entry(answer.err().map_or(0, |e| e.number)).or_default() += 1;
+        // a place lies in the file, at its end, or is a stream or a zone
+        if let Err(e) = answer {
+            match e.number {
+                1 => assert_eq!(e.place, 0),
+                2..=7 => assert!(e.place < file.len()),
+                8 => assert_eq!(e.place, file.len()),
+                9 | 15 | 16 => assert!((1..=16).contains(&e.place)),
+                11 | 13 => assert!(e.place < plan.len()),
+                12 => assert!(e.place <= plan.len()),
+                17 => assert!((1..=64).contains(&e.place)),
+                _ => panic!("{e:?}"),
+            }
+            // where both files read well, the meaning says no as well
+            if e.number >= 15 {
+                let j = read_junction(&file).unwrap();
+                assert!(!meaning(&j, &read_plan(&plan, &j).unwrap()));
+            }
+        }
+    }
+    println!("{answers:?}");
+    for number in [2, 3, 4, 5, 7, 8, 11, 12, 13] {
+        assert!(answers.contains_key(&number), "{answers:?}");
+    }
+}
+
+#[test]
+fn file_days_change_no_answer() {
+    let mut r = Random::new(seed("file_days", 4));
+    for _ in 0..2_000 {
+        let junction = rich_junction(&mut r);
+        let mut other = junction.clone();
+        for c in &mut other.counts {
+            c.file_day = r.from_to(0, 65_535) as u16;
+        }
+        let plan = packed_plan(&mut r, &junction, &Entries::of(&junction)).to_file();
+        assert_eq!(judge(&junction.to_file(), &plan), judge(&other.to_file(), &plan));
+        let (mut a, mut b) = ([9; 140], [9; 140]);
+        assert_eq!(work_out(&junction.to_file(), &mut a), work_out(&other.to_file(), &mut b));
+        assert_eq!(a, b);
+    }
+}
+
+#[test]
+fn worked_out_plans() {
+    let mut r = Random::new(seed("worked_out_plans", 5));
+    let mut answers: BTreeMap<u8, usize> = BTreeMap::new();
+    let mut long_search = 0;
+    for _ in 0..15_000 {
+        let junction = if r.one_in(12) { limit_junction(&mut r) } else { rich_junction(&mut r) };
+        let file = junction.to_file();
+        let size = 5 + 8 * junction.streams.len();
+        let room = r.pick(&[0, size - 1, size, size + 1, size + 20, size + 20, size + 20]);
+        let before: Vec<u8> = (0..room).map(|i| i as u8 ^ 0x5a).collect();
+        let mut buffer = before.clone();
+        match work_out(&file, &mut buffer) {
+            Ok(w) => {
+                assert_eq!(buffer[..size], w.plan.to_file());
+                assert_eq!(buffer[size..], before[size..]);
+                assert_eq!(judge(&file, &buffer[..size]), Ok(()));
+                assert!(meaning(&junction, &w.plan));
+                assert!(1 <= w.tried_at_least && w.tried_at_least <= w.tried);
+                assert_eq!(w.tried, w.cycle - w.first_length + 1);
+                if w.tried > 20 {
+                    long_search += 1;
+                }
+                *answers.entry(0).or_default() += 1;
+            }
+            Err(e) => {
+                assert_eq!(buffer, before);
+                assert_eq!(e.place, 0);
+                assert_eq!(e.number == 23, room < size && work_out(&file, &mut [0; 133]).is_ok());
+                *answers.entry(e.number).or_default() += 1;
+            }
+        }
+    }
+    println!("{answers:?}, {long_search} after more than 20 lengths");
+    for number in [0, 21, 22, 23] {
+        assert!(answers[&number] > 100, "{answers:?}");
+    }
+}
+
+fn random_time(r: &mut Random) -> Time {
+    if r.one_in(2) {
+        Time::plain(fraction(r.from_to(-5_000, 5_000) as i128, r.pick(&[1, 10, 100, 111])))
+    } else {
+        let root = Time::root(fraction(r.from_to(0, 2_000) as i128, r.pick(&[1, 5, 10])));
+        root.later(r.from_to(-20, 20) as i128)
+    }
+}
+
+/// The exact comparison against one with floating numbers, wherever those can tell.
+#[test]
+fn comparison_of_roots() {
+    let mut r = Random::new(seed("comparison_of_roots", 6));
+    let mut close = 0;
+    for _ in 0..300_000 {
+        let a = random_time(&mut r);
+        let b = if r.one_in(50) { a } else { random_time(&mut r) };
+        let gap = a.about() - b.about();
+        if gap.abs() > 1e-9 {
+            assert_eq!(a.no_later_than(b), gap < 0.0, "{a:?} {b:?}");
+        } else {
+            close += 1;
+            assert!(a.no_later_than(b) && b.no_later_than(a));
+        }
+    }
+    assert!(close > 3_000);
+    // every stop tram against every standing car: two roots
+    for sum in 100..=1_000i128 {
+        for r in 0..=999i128 {
+            let a = Time::root(fraction(sum, 5));
+            let b = Time::root(fraction(r + 15, 10)).later(-1);
+            let gap = a.about() - b.about();
+            let n = gap.round() as i128;
+            let exact = a.no_later_than(b.later(n)) as i32 + b.later(n).no_later_than(a) as i32;
+            // both hold only where the difference is whole: equal roots, or both whole
+            assert_eq!(exact == 2, is_whole_difference(sum, r + 15, n - 1), "{sum} {r}");
+            if exact == 1 {
+                assert_eq!(a.no_later_than(b.later(n)), gap < n as f64, "{sum} {r}");
+            }
+        }
+    }
+}
+
+/// root of sum/5 = k + root of q/10, told in whole numbers: 2 sum - q - 10 k k = 20 k root of q/10.
+fn is_whole_difference(sum: i128, q: i128, k: i128) -> bool {
+    let d = 2 * sum - q - 10 * k * k;
+    d * d == 40 * k * k * q && d * k >= 0 && (k >= 0 || q >= 10 * k * k)
+}
+
+/// Entries by counting up against the rounded-up difference in floating numbers.
+#[test]
+fn entries_round_up() {
+    let mut r = Random::new(seed("entries_round_up", 7));
+    for _ in 0..4_000 {
+        let junction = rich_junction(&mut r);
+        for i in 1..=junction.streams.len() {
+            for j in 1..=junction.streams.len() {
+                let e = entry(&junction, i, j);
+                let most = junction
+                    .zones
+                    .iter()
+                    .filter_map(|z| {
+                        let (a, b) = (z.a as usize, z.b as usize);
+                        let kind = |s: usize| -> &Kind { &junction.stream(s).kind };
+                        if (a, b) == (i, j) {
+                            Some(leaving(kind(i), z.clearing_a).about() - reaching(kind(j), z.reaching_b).about())
+                        } else if (b, a) == (i, j) {
+                            Some(leaving(kind(i), z.clearing_b).about() - reaching(kind(j), z.reaching_a).about())
+                        } else {
+                            None
+                        }
+                    })
+                    .fold(0.0, f64::max);
+                assert!(e as f64 >= most - 1e-9 && (e == 0 || (e - 1) as f64 <= most + 1e-9), "{e} {most}");
+            }
+        }
+    }
+}
