@@ -5,13 +5,12 @@
 int main(int argc, char **argv)
 {
     static uint8_t junction[16385], plan[GIVENDRA_PLAN_LENGTH(16)];
-    FILE *file = argc == 2 ? fopen(argv[1], "rb") : NULL;
-    if (!file) {
-        fprintf(stderr, "usage: desk JUNCTION-FILE\n");
-        return 2;
-    }
-    size_t length = fread(junction, 1, sizeof junction, file);
-    fclose(file);
+    if (argc != 2)
+        return fprintf(stderr, "usage: desk JUNCTION-FILE\n"), 2;
+    FILE *file = fopen(argv[1], "rb");
+    size_t length = file ? fread(junction, 1, sizeof junction, file) : 0;
+    if (!file || ferror(file))
+        return perror(argv[1]), 2;
 
     struct givendra_plan_answer worked = givendra_work_out(junction, length, plan, sizeof plan);
     if (worked.refusal) {

@@ -1,8 +1,9 @@
 /* Traffic-signal timing by the annex of Ordinance RD-02-21-2: judge a plan, work out a plan, and ask for the annex's figures.
  *
- * Link with target/staticlib/libgivendra.a (made by `rt staticlib givendra`), on x86-64. Nothing is allocated and nothing is kept between
- * calls. A function reads the bytes that it is lent and writes only into givendra_work_out's buffer. Files and lists may hold anything;
- * what is lent must be readable for its whole length, the buffer writable too, and a pointer is not NULL, even with the length 0.
+ * Link with target/staticlib/libgivendra.a (made by `rt staticlib givendra`), on x86-64 Linux. Nothing is allocated and nothing is kept
+ * between calls. A function reads the bytes that it is lent and writes only into givendra_work_out's buffer. Files and lists may hold
+ * anything; what is lent must be readable for its whole length, the buffer writable too, and a pointer is not NULL, even with the length 0.
+ * The buffer does not overlap the junction file, and nothing else writes lent memory during a call.
  *
  * Every answer has a refusal's number and its place. Number 0: nothing is refused, and the place is 0. Any other number: the place says
  * where, and every other member is 0.
@@ -10,13 +11,16 @@
  *   The junction file's questions, place a byte's offset in the file unless said:
  *    1  longer than 16,384 bytes (place 0)        6  more than 16 streams, 64 zones or 128 counts
  *    2  a field does not fit                      7  a stream that does not exist or does not suit
- *    3  a tag that is not known or in its order   8  no heading, phases not 1 to 2 or more, no car (place: the file's length)
+ *    3  a tag that is not known or in its order   8  no heading, no car, or the phases used are not exactly 1 to some number, 2 or
+ *                                                    more (place: the file's length)
  *    4  a field's length is wrong                 9  a car has no usable count (place: the stream)
  *    5  a number is out of range
  *   The plan file's questions, place an offset in the plan file:
  *   11  a field does not fit   12  not the field that is due   13  a number is out of range
  *   Its rules: 15  needed green (place: the stream)   16  capacity (place: the stream)   17  a conflict zone (place: the zone, from 1)
- *   Working out, place 0: 21  flow ratios sum to 1 or more   22  no cycle up to 180 s   23  the buffer is too short
+ *   Working out, place 0:
+ *   21  the phases' flow ratios, each rounded up, sum to 1 or more   22  no length from the annex's optimum to 180 s works
+ *   23  the buffer is too short
  */
 #ifndef GIVENDRA_H
 #define GIVENDRA_H
@@ -77,9 +81,10 @@ struct givendra_plan_answer givendra_work_out(const uint8_t *junction, size_t ju
 struct givendra_junction_answer givendra_read_junction(const uint8_t *junction, size_t junction_length);
 
 /* Figures of a junction file's streams, which are numbered from 1. The junction's questions come first; then 7, place the number asked
- * for, where the file has no such stream or, for the last two, where the stream is no car. */
+ * for, where the file has no such stream or, for the last two, where the stream is no car. So where givendra_read_junction refuses
+ * nothing, 7 is about the number asked for. */
 
-/* Intergreen time from one stream to another, in s; 0 where the two share no conflict zone. */
+/* Intergreen time from one stream to another, in s; 0 also where the two share no conflict zone. The stream that leaves is asked first. */
 struct givendra_figure givendra_intergreen(const uint8_t *junction, size_t junction_length, size_t from, size_t to);
 
 /* Needed green of a stream at a cycle, in s. After 7: 13, place 0, where the cycle is not from 1 to 180 s. */
@@ -91,8 +96,8 @@ struct givendra_figure givendra_saturation_flow(const uint8_t *junction, size_t 
 /* Flow ratio of a car stream, in ten-thousandths, rounded up. */
 struct givendra_figure givendra_flow_ratio(const uint8_t *junction, size_t junction_length, size_t stream);
 
-/* The flow of a stream by a list of counts, in E/h: that of the latest count day not after the design day, of equals the larger. Records of
- * other streams, after the design day, or with a flow not from 1 to 9,999 are passed over; 9, place the stream, where none is left. */
+/* The flow of a stream by a list of so many counts, in E/h: that of the latest count day not after the design day, of equal days the larger
+ * flow. Records of other streams, after the design day, or with a flow not from 1 to 9,999 are passed over; 9, place the stream, where none is left. */
 struct givendra_figure givendra_newest_count(const struct givendra_count_record *list, size_t list_length, size_t stream, uint16_t design_day);
 
 #ifdef __cplusplus
