@@ -1,6 +1,6 @@
 -- The answers to programs in other languages: the paper's number and place of the verdict, and the figures, 0 where something is refused.
 use Prim.Native.Nat.{ℕ}
-use mathlib.Core.Bool.{Bool, _&&_, cond}
+use mathlib.Core.Bool.{_&&_, cond}
 use mathlib.Core.List.{List}
 use lib.Dec.{leb}
 use Rattle.fields.specs.Verdict.{numberOf, placeOf, isRefused, ask, firstRefusal}

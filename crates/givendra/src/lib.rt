@@ -9,8 +9,6 @@ ghost use Rattle.givendra.specs.LentList.{recordRank, newestAnswer, newe
 use fields::Verdict;
 use fields::ask;
 use junction::Junction;
-use junction::Reading;
-use working_out::Worked;
 
 // A judge's answer.
 #[repr(C)]

@@ -22,7 +22,7 @@ pub struct Conflicts {
     pub of: [Conflict; 64],
 }
 
-// The flow of a stream and its saturation flow in E/h, and their ratio in ten-thousandths; all 0 for a stream that is no car.
+// The flow of a stream and its saturation flow in E/h, 0 and 0 for a stream that is no car, and their ratio in ten-thousandths.
 pub struct Load {
     pub flow: u16,
     pub saturation: u32,

@@ -1,0 +1,111 @@
+-- What the C library's numbers say: refusal 0 exactly where nothing is refused, and the figure itself then; every other number 0 where
+-- something is refused.
+use Prim.Native.Nat.{ℕ}
+use native.Mathlib.Omega.{arith}
+use mathlib.Core.Bool.{Bool, true, _&&_}
+use mathlib.Core.List.{List}
+use mathlib.Core.Logic.{_↔_}
+use mathlib.Core.Path.{_≡_, refl}
+use lib.Dec.{leb}
+use Rattle.fields.specs.Numbers.{Numbered, ask-numbered, first-numbered, numbered-more, passed-number}
+use Rattle.fields.specs.Verdict.{isRefused, ask, ask-passed, firstRefusal, both-passed}
+use Rattle.fields.specs.declared.Verdict.{Verdict}
+use Rattle.fields.specs.declared.Verdict.the-variants.{Passed}
+use Rattle.questions.specs.Questions.{exists, countRefers}
+use Rattle.reading.specs.Numbers.{reading-numbered}
+use Rattle.reading.specs.Reading.{reading}
+use Rattle.judging.specs.Judgement.{judgement}
+use Rattle.judging.specs.Numbers.{number-accepted}
+use Rattle.junction_figures.specs.Figures.{pairEntry, streamNeed, streamSaturation, streamRatio}
+use Rattle.givendra.specs.Answers.{judgeAnswer, figure, intergreenVerdict, needVerdict, carVerdict, intergreenAnswer, needAnswer, saturationAnswer, ratioAnswer}
+
+-- the plan is accepted exactly where the judge's refusal is 0
+pub judge-accepts : (junction plan : List ℕ) → (judgeAnswer junction plan .refusal ≡ 0) ↔ (judgement junction plan ≡ Passed)
+unfolding judgeAnswer
+judge-accepts junction plan = number-accepted junction plan
+
+asked : (answer : Bool) (number place : ℕ) (later : Verdict) → (ask answer number place later ≡ Passed) ↔ ((answer ≡ true) × (later ≡ Passed))
+asked answer number place later = (ask-passed answer number place later, λ both. rw (both .0) (both .1))
+
+-- a figure is told exactly where its verdict is no refusal, and then it is the figure; else its value is 0
+pub figure-told : (v : Verdict) (x : ℕ) → v ≡ Passed → figure v x ≡ record { place = 0; refusal = 0; value = x }
+unfolding figure
+figure-told v x e = rw e
+
+pub figure-refused : (v : Verdict) (x : ℕ) → isRefused v ≡ true → figure v x .value ≡ 0
+unfolding figure
+figure-refused v x e = rw e
+
+figure-number : (v : Verdict) (x : ℕ) → Numbered 13 v → (figure v x .refusal ≡ 0) ↔ (v ≡ Passed)
+unfolding figure
+figure-number v x n = passed-number 13 v n
+
+-- the questions of a figure, after the junction's
+own-numbered : (junction : List ℕ) (own : Verdict) → Numbered 13 own → Numbered 13 (firstRefusal (reading junction .verdict) own)
+own-numbered junction own n =
+    first-numbered 13 (reading junction .verdict) own (numbered-more 9 13 (omega arith) (reading junction .verdict) (reading-numbered junction)) n
+
+module _ (junction : List ℕ) where
+  -- an intergreen is told exactly where the file is taken and both streams exist
+  pub intergreen-told : (from to : ℕ)
+      → (intergreenAnswer junction from to .refusal ≡ 0)
+      ↔ ((reading junction .verdict ≡ Passed) × (exists (reading junction .junction) from ≡ true) × (exists (reading junction .junction) to ≡ true))
+  unfolding intergreenAnswer intergreenVerdict
+  intergreen-told from to =
+      let j = reading junction .junction in
+      let second = ask (exists j to) 7 to Passed in
+      let own = ask (exists j from) 7 from second in
+      let told = figure-number (firstRefusal (reading junction .verdict) own) (pairEntry j from to)
+      (own-numbered junction own (ask-numbered 13 (exists j from) 7 from second (omega arith) (ask-numbered 13 (exists j to) 7 to Passed (omega arith) tt))) in
+      let both = both-passed (reading junction .verdict) own in
+      let first = asked (exists j from) 7 from second in
+      let last = asked (exists j to) 7 to Passed in (
+        λ e. let b = both .0 (told .0 e) in let f = first .0 (b .1) in (b .0, f .0, last .0 (f .1) .0),
+        λ h. told .1 (both .1 (h .0, first .1 (h .1, last .1 (h .2, refl)))),
+      )
+
+  -- a need, exactly where the file is taken, the stream exists and the cycle is from 1 to 180
+  pub need-told : (n cycle : ℕ)
+      → (needAnswer junction n cycle .refusal ≡ 0)
+      ↔ ((reading junction .verdict ≡ Passed) × (exists (reading junction .junction) n ≡ true) × ((leb 1 cycle && leb cycle 180) ≡ true))
+  unfolding needAnswer needVerdict
+  need-told n cycle =
+      let j = reading junction .junction in
+      let second = ask (leb 1 cycle && leb cycle 180) 13 0 Passed in
+      let own = ask (exists j n) 7 n second in
+      let told = figure-number (firstRefusal (reading junction .verdict) own) (streamNeed j n cycle)
+      (own-numbered junction own (ask-numbered 13 (exists j n) 7 n second (omega arith) (ask-numbered 13 (leb 1 cycle && leb cycle 180) 13 0 Passed (omega arith) tt))) in
+      let both = both-passed (reading junction .verdict) own in
+      let first = asked (exists j n) 7 n second in
+      let last = asked (leb 1 cycle && leb cycle 180) 13 0 Passed in (
+        λ e. let b = both .0 (told .0 e) in let f = first .0 (b .1) in (b .0, f .0, last .0 (f .1) .0),
+        λ h. told .1 (both .1 (h .0, first .1 (h .1, last .1 (h .2, refl)))),
+      )
+
+  car-told : (n x : ℕ)
+      → (figure (firstRefusal (reading junction .verdict) (carVerdict (reading junction .junction) n)) x .refusal ≡ 0)
+      ↔ ((reading junction .verdict ≡ Passed) × (countRefers (reading junction .junction) n ≡ true))
+  unfolding carVerdict
+  car-told n x =
+      let j = reading junction .junction in
+      let own = ask (countRefers j n) 7 n Passed in
+      let told = figure-number (firstRefusal (reading junction .verdict) own) x
+      (own-numbered junction own (ask-numbered 13 (countRefers j n) 7 n Passed (omega arith) tt)) in
+      let both = both-passed (reading junction .verdict) own in
+      let first = asked (countRefers j n) 7 n Passed in (
+        λ e. let b = both .0 (told .0 e) in (b .0, first .0 (b .1) .0),
+        λ h. told .1 (both .1 (h .0, first .1 (h .1, refl))),
+      )
+
+  -- saturation flow and flow ratio, exactly where the file is taken and the stream is an existing car
+  pub saturation-told : (n : ℕ)
+      → (saturationAnswer junction n .refusal ≡ 0)
+      ↔ ((reading junction .verdict ≡ Passed) × (countRefers (reading junction .junction) n ≡ true))
+  unfolding saturationAnswer
+  saturation-told n = car-told n (streamSaturation (reading junction .junction) n)
+
+  pub ratio-told : (n : ℕ)
+      → (ratioAnswer junction n .refusal ≡ 0)
+      ↔ ((reading junction .verdict ≡ Passed) × (countRefers (reading junction .junction) n ≡ true))
+  unfolding ratioAnswer
+  ratio-told n = car-told n (streamRatio (reading junction .junction) n)

@@ -1,0 +1,38 @@
+-- File days change no answer of the C library (document 01, "The junction file": changing file days changes no answer of any entry).
+use Prim.Native.Nat.{ℕ}
+use mathlib.Core.List.{List}
+use mathlib.Core.Path.{_≡_}
+use Rattle.reading.specs.FileDays.{OnlyFileDays, file-days-without-effect}
+use Rattle.judging.specs.FileDays.{file-days-unjudged}
+use Rattle.working_out.specs.Demand2.{file-days-unplanned}
+use Rattle.givendra.specs.Answers.{judgeAnswer, planAnswer, junctionAnswer, intergreenAnswer, needAnswer, saturationAnswer, ratioAnswer}
+
+-- of two junction files that differ only in file days
+module _ (s t : List ℕ) (only : OnlyFileDays s t) where
+  pub judge-same : (plan : List ℕ) → judgeAnswer s plan ≡ judgeAnswer t plan
+  unfolding judgeAnswer
+  judge-same plan = rw (file-days-unjudged s t only plan)
+
+  pub plan-same : (size : ℕ) → planAnswer s size ≡ planAnswer t size
+  unfolding planAnswer
+  plan-same size = rw (file-days-unplanned s t only .0 size)
+
+  pub junction-same : junctionAnswer s ≡ junctionAnswer t
+  unfolding junctionAnswer
+  junction-same = rw (file-days-without-effect s t only)
+
+  pub intergreen-same : (from to : ℕ) → intergreenAnswer s from to ≡ intergreenAnswer t from to
+  unfolding intergreenAnswer
+  intergreen-same from to = rw (file-days-without-effect s t only)
+
+  pub need-same : (n cycle : ℕ) → needAnswer s n cycle ≡ needAnswer t n cycle
+  unfolding needAnswer
+  need-same n cycle = rw (file-days-without-effect s t only)
+
+  pub saturation-same : (n : ℕ) → saturationAnswer s n ≡ saturationAnswer t n
+  unfolding saturationAnswer
+  saturation-same n = rw (file-days-without-effect s t only)
+
+  pub ratio-same : (n : ℕ) → ratioAnswer s n ≡ ratioAnswer t n
+  unfolding ratioAnswer
+  ratio-same n = rw (file-days-without-effect s t only)
