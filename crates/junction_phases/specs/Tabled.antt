@@ -1,5 +1,5 @@
 -- The figures of streams and zones by the tables are those of the junction.
-use Prim.Native.Nat.{ℕ, _+_, _-_, _<_, max}
+use Prim.Native.Nat.{ℕ, _+_, _-_, max}
 use native.Mathlib.Omega.{arith}
 use mathlib.Core.Bool.{_&&_, cond}
 use mathlib.Core.List.{List}

@@ -2,13 +2,18 @@
 // a plan"). Phases and streams are named by their numbers, from 1.
 ghost use mathlib.Core.Bool.{_&&_, cond};
 ghost use mathlib.Core.Path.{_≡_};
-ghost use Prim.Native.Nat.{_+_, _≤_, max, min};
+ghost use Prim.Native.Nat.{ℕ, _+_, _≤_, _<_, max, min};
 ghost use lib.Dec.{ltb, eqb};
+ghost use lib.ListN.{getD};
+ghost use Rattle.laws.specs.Largest.{largestOf};
+ghost use Rattle.laws.specs.Ranges.{Between};
 ghost use Rattle.flows.specs.Needs.{needAt};
+ghost use Rattle.questions.specs.Blank.{noStream};
 ghost use Rattle.questions.specs.Questions.{isCar};
 ghost use Rattle.reading.specs.Taken.{Taken};
 ghost use Rattle.tables.specs.Tables.{loadsOf, conflictsOf};
 ghost use Rattle.junction_phases.specs.JunctionPhases.{isSlow, phaseCount, slow as slowIn, phaseEntry, intergreen as intergreenOf, phaseAt, phasesAt, withNeed};
+ghost use Rattle.junction_phases.specs.Needs.{needBy};
 ghost use Rattle.junction_phases.specs.Tabled.{figureBy, largestBy, zoneFigureBy};
 use junction::Junction;
 use phases::Phase;
@@ -213,14 +218,31 @@ pub fn phases_at(j: Junction, loads: Loads, conflicts: Conflicts, t: u16) -> Pha
     q
 }
 
+// The largest needed green of each phase's streams at a cycle, by one pass over the streams.
+fn needs_at(streams: [Stream; 16], n: usize, t: u16) -> [u32; 6]
+    requires few { ⌜ n ≤ 16 ⌝ }
+    requires phases { ⌜ ((i : ℕ) → i < n → Between 1 6 (getD streams i noStream .phase)) ⌝ }
+    ensures { λ r. ⌜ ((f : ℕ) → f < 6 → getD r f 0 ≡ largestOf (λ i. needBy (getD streams i noStream) (f + 1) t) n) ⌝ }
+{
+    let mut needs: [u32; 6] = [0; 6];
+    let mut i: usize = 0;
+    while i < n {
+        let s = streams[i];
+        let f = s.phase as usize - 1;
+        needs[f] = larger(needs[f], flows::need(s, t));
+        i += 1;
+    }
+    needs
+}
+
 // The same phases with their needs at another cycle.
-pub fn at_cycle(j: Junction, loads: Loads, q: Phases, t: u16) -> Phases
+pub fn at_cycle(j: Junction, q: Phases, t: u16) -> Phases
     requires taken { ⌜ Taken j ⌝ }
-    requires loads { ⌜ loads ≡ loadsOf j ⌝ }
     requires phases { ⌜ q ≡ phasesAt j 0 ⌝ }
     ensures { λ r. ⌜ r ≡ phasesAt j t ⌝ }
 {
     let streams = j.streams;
+    let needs = needs_at(streams, j.held.streams, t);
     let count = q.count;
     let mut now = Phases {
         count,
@@ -228,16 +250,7 @@ pub fn at_cycle(j: Junction, loads: Loads, q: Phases, t: u16) -> Phases
     };
     let mut i: usize = 0;
     while i < count {
-        let need = largest(
-            streams,
-            loads,
-            j.held.streams,
-            Sought::Need {
-                phase: i as u8 + 1,
-                cycle: t,
-            },
-        );
-        now.of[i] = with_need(phases::phase_at(q, i), need);
+        now.of[i] = with_need(phases::phase_at(q, i), needs[i]);
         i += 1;
     }
     now

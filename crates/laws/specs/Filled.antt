@@ -46,3 +46,9 @@ module _ {A : Type 0} (f : ℕ → A) (l : List A) where
   filled-past (suc n) i d past =
       let earlier = filled-past n i d in
       rw (getD-set-other (filled f l n) n i (f n) d (omega arith)) (earlier (omega arith))
+
+  -- two sequences that agree fill alike
+  pub filled-same : (g : ℕ → A) (n : ℕ) → ((i : ℕ) → i < n → f i ≡ g i) → filled f l n ≡ filled g l n
+  unfolding filled
+  filled-same g zero same = refl
+  filled-same g (suc n) same = rw (filled-same g n (λ i low. same i (omega arith)), same n (omega arith))

@@ -1,3 +1,4 @@
 pub mod Fills
 pub mod First
 pub mod Phases
+pub mod Slots

@@ -1,20 +1,14 @@
 -- The arithmetic of phases, in the order of document 01, "Working out a plan". Sums go over six places; those after the last phase are empty
 -- and add nothing.
-use Prim.Native.Nat.{ℕ, _+_, _-_, _*_, _/_, _<_, _≤_}
+use Prim.Native.Nat.{ℕ, _+_, _-_, _*_, _/_}
 use mathlib.Core.Bool.{Bool, false, _&&_, cond}
 use lib.Dec.{leb, ltb, eqb}
-use lib.ListN.{getD, replicate}
-use native.Mathlib.Nat.{le-refl}
-use mathlib.Core.Path.{_≡_}
-use Rattle.laws.specs.Filled.{filled, filled-at}
-use native.Mathlib.Omega.{arith}
-use Rattle.laws.specs.Search.{firstBelow, first-same}
+use lib.ListN.{getD}
+use Rattle.laws.specs.Search.{firstBelow}
 use Rattle.laws.specs.Sums.{sumOf}
 use Rattle.phases.specs.declared.Phase.{Phase}
 use Rattle.phases.specs.declared.Phases.{Phases}
 use Rattle.phases.specs.declared.Sharing.{Sharing}
-use Rattle.phases.specs.declared.Slot.{Slot}
-use Rattle.phases.specs.declared.Slots.{Slots}
 use Rattle.phases.specs.declared.Figure.{Figure}
 use Rattle.phases.specs.declared.Figure.the-variants.{Ratio, Lost, Cars, Share}
 
@@ -88,31 +82,10 @@ greenAt q s i = greenBy (phase q i) s (carsBefore q i)
 unfoldable pub startAt : Phases → Sharing → ℕ → ℕ
 startAt q s n = sumOf (λ i. greenAt q s i + phase q i .intergreen) n
 
--- start and green of each place, worked out once
-abbrev pub noSlot : Slot
-noSlot = record { start = 0; green = 0 }
-
-abbrev pub slotAt : Phases → Sharing → ℕ → Slot
-slotAt q s i = record { start = startAt q s i; green = greenAt q s i }
-
-unfoldable pub slotsOf : Phases → Sharing → Slots
-slotsOf q s = record { of = filled (slotAt q s) (replicate 6 noSlot) 6 }
-
-pub slot-place : (q : Phases) (s : Sharing) (i : ℕ) → i < 6 → getD (slotsOf q s .of) i noSlot ≡ slotAt q s i
-unfolding slotsOf
-slot-place q s i h = filled-at (slotAt q s) (replicate 6 noSlot) 6 i noSlot h (le-refl 6)
-
-unfoldable pub firstShortIn : Slots → ℕ → ℕ
-firstShortIn slots n = firstBelow (λ i. ltb (getD (slots .of) i noSlot .green) 1) n 0
-
--- a length fails if it is below L or a green is below 1
+-- the first place of a phase whose green is below 1; the number of phases where none is
 unfoldable pub firstShort : Phases → Sharing → ℕ
 firstShort q s = firstBelow (λ i. ltb (greenAt q s i) 1) (q .count) 0
 
+-- a length fails if it is below L or a green is below 1
 unfoldable pub possible : Phases → ℕ → Bool
 possible q t = leb (lostTime q) t && leb (q .count) (firstShort q (sharing q t))
-
--- by the table it is the same
-pub short-tabled : (q : Phases) (s : Sharing) → q .count ≤ 6 → firstShortIn (slotsOf q s) (q .count) ≡ firstShort q s
-unfolding firstShortIn firstShort
-short-tabled q s few = first-same _ _ (q .count) 0 (λ i low high. rw (slot-place q s i (omega arith)))

@@ -3,7 +3,8 @@ ghost use mathlib.Core.Bool.{cond};
 ghost use mathlib.Core.Path.{_≡_};
 ghost use Prim.Native.Nat.{_+_, _-_, _*_, _≤_};
 ghost use lib.Dec.{leb};
-ghost use Rattle.phases.specs.Phases.{noPhase, phase, share as shareOf, lost as lostOf, term as termOf, sum as sumIn, ratioSum, lostTime, longEnough, firstLength, sharing as sharingOf, extra as extraOf, greenBy, noSlot, slotsOf, firstShortIn, possible as possibleAt};
+ghost use Rattle.phases.specs.Phases.{noPhase, phase, share as shareOf, lost as lostOf, term as termOf, sum as sumIn, ratioSum, lostTime, longEnough, firstLength, sharing as sharingOf, extra as extraOf, greenBy, possible as possibleAt};
+ghost use Rattle.phases.specs.Slots.{noSlot, slotsOf, firstShortIn};
 use laws::above;
 
 // A phase: whether it has cars, the largest flow ratio of these in ten-thousandths, M toward the next phase, and the largest needed green of

@@ -7,7 +7,8 @@ use Rattle.laws.specs.Search.{firstBelow}
 use Rattle.fields.specs.Verdict.{isRefused}
 use Rattle.junction.specs.declared.Junction.{Junction}
 use Rattle.questions.specs.Questions.{streamNumbered}
-use Rattle.phases.specs.Phases.{ratioSum, lostTime, firstLength, sharing, slotAt, possible}
+use Rattle.phases.specs.Phases.{ratioSum, lostTime, firstLength, sharing, possible}
+use Rattle.phases.specs.Slots.{slotAt}
 use Rattle.phases.specs.declared.Phases.{Phases}
 use Rattle.phases.specs.declared.Sharing.{Sharing}
 use Rattle.phases.specs.declared.Slot.{Slot}

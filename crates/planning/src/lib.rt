@@ -4,7 +4,8 @@ ghost use mathlib.Core.Path.{_≡_};
 ghost use Prim.Native.Nat.{_≤_};
 ghost use Rattle.reading.specs.Taken.{Taken};
 ghost use Rattle.tables.specs.Tables.{loadsOf, conflictsOf};
-ghost use Rattle.phases.specs.Phases.{sharing, slotsOf, possible as possibleAt};
+ghost use Rattle.phases.specs.Phases.{sharing, possible as possibleAt};
+ghost use Rattle.phases.specs.Slots.{slotsOf};
 ghost use Rattle.junction_phases.specs.JunctionPhases.{phasesAt};
 ghost use Rattle.planning.specs.Planning.{slotGreen, planAt, found as foundFrom, firstTried};
 ghost use Rattle.planning.specs.Lengths.{Small};
@@ -71,7 +72,8 @@ pub fn plan_at(j: Junction, q: Phases, slots: Slots, t: u16) -> Plan
     p
 }
 
-// The least length from the first on that works: at least its lost time, every green 1 or more, and every rule met.
+// The least length from the first on that works: at least its lost time, every green 1 or more, and every rule met. The tests stand in the
+// loop, which is left from inside them at the first rule broken.
 fn search(j: Junction, loads: Loads, conflicts: Conflicts, fixed: Phases, first: u16) -> Found
     requires taken { ⌜ Taken j ⌝ }
     requires loads { ⌜ loads ≡ loadsOf j ⌝ }
@@ -89,7 +91,7 @@ fn search(j: Junction, loads: Loads, conflicts: Conflicts, fixed: Phases, first:
             break t;
         }
         tried += 1;
-        let q = junction_phases::at_cycle(j, loads, fixed, t);
+        let q = junction_phases::at_cycle(j, fixed, t);
         let slots = phases::slots_of(q, phases::shared_out(q, t));
         if !phases::possible(q, slots, t) {
             t += 1;

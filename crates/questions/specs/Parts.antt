@@ -1,5 +1,5 @@
--- The questions asked of parts of a junction: a field's of what the junction holds and of the streams that the body names, question 8 of its
--- streams alone.
+-- The questions asked of parts of a junction: a field's of what the junction holds and of the streams that the body names, question 8's
+-- phases and car of its streams alone.
 use Prim.Native.Nat.{ℕ}
 use mathlib.Core.List.{List, []}
 use mathlib.Core.Path.{_≡_, refl}

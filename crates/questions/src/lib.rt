@@ -5,7 +5,7 @@ ghost use Prim.Native.Nat.{ℕ, _<_};
 ghost use lib.Dec.{leb, eqb};
 ghost use lib.ListN.{getD};
 ghost use Rattle.junction.specs.declared.Junction.{Junction};
-ghost use Rattle.questions.specs.Questions.{inOrder, lengthRight, inRange, withinLimit, streamNumbered, streamAt, zoneAt, zoneNumbered, exists as existsIn, isCar, countRefers, refers as refersTo, bodyVerdict, firstInPhase, phasesRight, firstCar, newestRank, firstLacking, countsVerdict, wholeVerdict};
+ghost use Rattle.questions.specs.Questions.{inOrder, lengthRight, inRange, withinLimit, streamNumbered, streamAt, zoneAt, exists as existsIn, isCar, countRefers, refers as refersTo, bodyVerdict, firstInPhase, phasesRight, firstCar, newestRank, firstLacking, countsVerdict, wholeVerdict};
 ghost use Rattle.questions.specs.Blank.{noStream, noCount, noZone};
 ghost use Rattle.questions.specs.Parts.{Names, ofStreams};
 use fields::Verdict;
@@ -184,16 +184,6 @@ pub fn no_count() -> Count
         day: 0,
         flow: 0,
     }
-}
-
-// The zone with a number, from 1; an empty place where no zone has the number.
-pub fn zone_numbered(j: Junction, number: usize) -> Zone
-    ensures { λ r. ⌜ r ≡ zoneNumbered j number ⌝ }
-{
-    if number == 0 {
-        return no_zone();
-    }
-    zone_at(j, number - 1)
 }
 
 // The zone at a place, from 0; an empty place past the sixty-fourth.

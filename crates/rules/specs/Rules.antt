@@ -1,6 +1,7 @@
 -- The rules of document 01, "Judging a plan", each over all streams or zones before the next, the lowest first.
 use Prim.Native.Nat.{ℕ, _+_, _-_, _*_}
 use mathlib.Core.Bool.{Bool, _&&_, _||_, not, cond}
+use mathlib.Core.Path.{_≡_, refl}
 use lib.Dec.{leb}
 use Rattle.streams.specs.declared.Stream.{Stream}
 use Rattle.flows.specs.Needs.{needAt}
@@ -9,6 +10,7 @@ use Rattle.fields.specs.declared.Verdict.{Verdict}
 use Rattle.fields.specs.declared.Verdict.the-variants.{Passed}
 use Rattle.junction.specs.declared.Junction.{Junction}
 use Rattle.questions.specs.Questions.{streamNumbered, zoneNumbered, isCar}
+use Rattle.junction_figures.specs.Figures.{pairEntry}
 use Rattle.tables.specs.Tables.{conflictOf, loadOf}
 use Rattle.tables.specs.declared.Conflict.{Conflict}
 use Rattle.tables.specs.declared.Load.{Load}
@@ -48,6 +50,14 @@ conflictMet c p = zoneClear (p .cycle) (greenOf p (c .a)) (greenOf p (c .b)) (c 
 -- the entries are the pair's, over all of its zones, so a pair that is too close is refused at its lowest zone
 unfoldable pub zoneMet : Junction → Plan → ℕ → Bool
 zoneMet j p n = conflictMet (conflictOf j (zoneNumbered j n)) p
+
+pub zone-by-pair : (j : Junction) (p : Plan) (n : ℕ)
+    → zoneMet j p n
+    ≡ zoneClear (p .cycle) (greenOf p (zoneNumbered j n .a .stream)) (greenOf p (zoneNumbered j n .b .stream))
+    (pairEntry j (zoneNumbered j n .a .stream) (zoneNumbered j n .b .stream))
+    (pairEntry j (zoneNumbered j n .b .stream) (zoneNumbered j n .a .stream))
+unfolding zoneMet
+zone-by-pair j p n = refl
 
 unfoldable pub rulesVerdict : Junction → Plan → Verdict
 rulesVerdict j p =

@@ -66,7 +66,7 @@ fn first_short(j: Junction, p: Plan) -> usize
     i
 }
 
-// The first place of a car stream without its capacity.
+// The first place of a car stream without its capacity; the number of streams where each has it.
 fn first_unserved(j: Junction, loads: Loads, p: Plan) -> usize
     requires taken { ⌜ Taken j ⌝ }
     requires loads { ⌜ loads ≡ loadsOf j ⌝ }
@@ -88,7 +88,7 @@ fn first_unserved(j: Junction, loads: Loads, p: Plan) -> usize
     i
 }
 
-// The first place of a zone whose streams' greens do not keep their entries apart.
+// The first place of a zone whose streams' greens do not keep their entries apart; the number of zones where none is.
 fn first_unclear(zones: usize, conflicts: Conflicts, p: Plan) -> usize
     requires { ⌜ zones ≤ 64 ⌝ }
     ensures { λ r. ⌜ r ≡ firstFailing (λ n. conflictMet (conflictNumbered conflicts n) p) zones ⌝ }

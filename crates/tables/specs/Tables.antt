@@ -31,7 +31,7 @@ noConflict = record { a = 0; b = 0; ahead = 0; behind = 0 }
 unfoldable pub conflictsOf : Junction → Conflicts
 conflictsOf j = record { of = filled (λ i. conflictOf j (zoneAt j i)) (replicate mostZones noConflict) (j .held .zones) }
 
--- the conflict of the zone with a number, from 1
+-- the conflict of the zone with a number, from 1; asked of no other number
 abbrev pub conflictNumbered : Conflicts → ℕ → Conflict
 conflictNumbered x n = getD (x .of) (n - 1) noConflict
 

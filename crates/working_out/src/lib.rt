@@ -4,7 +4,6 @@ ghost use mathlib.Core.Path.{_≡_};
 ghost use Prim.Native.Nat.{_≤_};
 ghost use lib.ListN.{length};
 ghost use Rattle.reading.specs.Taken.{Taken};
-ghost use Rattle.tables.specs.Tables.{loadsOf};
 ghost use Rattle.junction_phases.specs.JunctionPhases.{phasesAt};
 ghost use Rattle.plans.specs.Writing.{written};
 ghost use Rattle.planning.specs.Planning.{planAt, works};
@@ -13,7 +12,6 @@ use fields::Verdict;
 use fields::ask;
 use junction::Junction;
 use phases::Phases;
-use tables::Loads;
 
 // What was worked out: `Passed` with the cycle in seconds and how many lengths were tried; or a refusal, with 0 for both.
 pub struct Worked {
@@ -59,7 +57,7 @@ fn work_out_junction(j: Junction, out: &mut [u8]) -> Worked
             tried: 0,
         };
     }
-    write_plan(j, loads, q, found.cycle, out);
+    write_plan(j, q, found.cycle, out);
     Worked {
         verdict,
         cycle: found.cycle,
@@ -76,15 +74,14 @@ fn calculated(ratios: u64, cycle: u16, room: bool) -> Verdict
 }
 
 // Writes the plan of a length that works.
-fn write_plan(j: Junction, loads: Loads, q: Phases, t: u16, out: &mut [u8])
+fn write_plan(j: Junction, q: Phases, t: u16, out: &mut [u8])
     requires taken { ⌜ Taken j ⌝ }
-    requires loads { ⌜ loads ≡ loadsOf j ⌝ }
     requires phases { ⌜ q ≡ phasesAt j 0 ⌝ }
     requires cycle { ⌜ works j t ≡ true ⌝ }
     requires short { ⌜ t ≤ 180 ⌝ }
     ensures { λ _. ⌜ now (out .exit) ≡ written (planAt j t) (j .held .streams) (now (out .entry)) ⌝ }
 {
-    let now = junction_phases::at_cycle(j, loads, q, t);
+    let now = junction_phases::at_cycle(j, q, t);
     let slots = phases::slots_of(now, phases::shared_out(now, t));
     let p = planning::plan_at(j, now, slots, t);
     plans::write(p, j.held.streams, out);

@@ -1,6 +1,5 @@
 -- `fields::first_refusal` meets its contract.
 use borrow.Author.Needs.{needs}
-use Rattle.fields.specs.Verdict.{firstRefusal}
 use Rattle.fields.proofs.first_refusal.Statement.{statement}
 use Rattle.fields.proofs.first_refusal.Tie as tie
 

@@ -6,7 +6,6 @@ use Rattle.plans.specs.Plans.{planVerdict}
 use Rattle.judging.specs.Judgement.{planJudgement}
 use Rattle.judging.proofs.judge_plan.Statement.{statement}
 use Rattle.judging.proofs.judge_plan.Tie as tie
-use Rattle.rules.proofs.verdict.Reads as verdict-reads′
 
 verdict-requires : tie.Need-verdict-requires
 verdict-requires c κs = search needs

@@ -1,74 +1,85 @@
--- `junction_phases::at_cycle` meets its contract: the invariant is that the first i places hold the first i phases at the cycle.
-use Prim.Native.Nat.{_-_, _≤_}
-use mathlib.Core.Path.{_≡_, _∙_, ap}
+-- `junction_phases::at_cycle` meets its contract: the invariant is that the first i places hold the first i phases with the needs worked out.
+use Prim.Native.Nat.{ℕ, _+_, _-_, _≤_, _<_}
+use mathlib.Core.List.{List}
+use mathlib.Core.Path.{_≡_, _∙_, ap, ap₂}
 use native.Mathlib.Nat.{le-antisymm}
 use native.Mathlib.Omega.{arith}
-use lib.ListN.{replicate}
-use Rattle.laws.specs.Filled.{filled, filled-none, filled-next}
-use Rattle.phases.specs.Phases.{noPhase}
-use Rattle.junction_phases.specs.JunctionPhases.{phaseCount, phaseAt, phasesAt}
+use lib.ListN.{getD, replicate}
+use Rattle.laws.specs.Filled.{filled, filled-none, filled-next, filled-same}
+use Rattle.phases.specs.Phases.{noPhase, phase}
+use Rattle.phases.specs.declared.Phase.{Phase}
+use Rattle.phases.specs.declared.Phases.{Phases}
+use Rattle.junction_phases.specs.JunctionPhases.{largest, phaseCount, phaseAt, phasesAt, withNeed}
+use Rattle.junction_phases.specs.declared.Sought.the-variants.{Need}
+use Rattle.junction_phases.specs.Needs.{need-tabled, phase-range}
 use Rattle.junction_phases.specs.Placed.{few-phases, need-moved}
-use Rattle.junction_phases.specs.Tabled.{largest-tabled}
 use Rattle.junction_phases.proofs.at_cycle.Statement.{statement}
 use Rattle.junction_phases.proofs.at_cycle.Tie as tie
 
 abbrev Inv-loop : tie.InvT-loop
-Inv-loop j loads q t streams count now₀ i₀ now i =
-    (i ≤ phaseCount j) × (q .count ≡ phaseCount j) × (now ≡ record { count = phaseCount j; of = filled (phaseAt j t) (replicate 6 noPhase) i })
+Inv-loop q t needs count now₀ i₀ now i =
+    (i ≤ q .count) × (now ≡ record { count = q .count; of = filled (λ k. withNeed (phase q k) (getD needs k 0)) (replicate 6 noPhase) i })
 
 abbrev μ-loop : tie.MeasureT-loop
-μ-loop j loads q t streams count now₀ i₀ now i = phaseCount j - i
+μ-loop q t needs count now₀ i₀ now i = q .count - i
+
+needs-at-requires : tie.Need-needs-at-requires Inv-loop μ-loop
+needs-at-requires c κs = let s = c .before in (s .pre .0 .fields .fewStreams, phase-range (s .args .j) (s .pre .0))
 
 no-phase-requires : tie.Need-no-phase-requires Inv-loop μ-loop
 no-phase-requires c κs = tt
 
 loop-holds : tie.Need-loop-holds Inv-loop μ-loop
-unfolding phasesAt
-loop-holds c =
-    let e = ap (λ q. q .count) (c .before .before .pre .1 .1) in (omega arith, e, simp (c .no-phase .ensures, e, filled-none))
-
-cast-t13 : tie.Need-cast-t13 Inv-loop μ-loop
-cast-t13 c = omega (arith, few-phases (c .before .before .before .before .args .j), c .before .loop .inv .1)
-
-add-t14 : tie.Need-add-t14 Inv-loop μ-loop
-add-t14 c = omega (arith, few-phases (c .before .before .before .before .args .j), c .before .loop .inv .1)
-
-largest-requires : tie.Need-largest-requires Inv-loop μ-loop
-largest-requires c κs = c .before .before .before .before .pre .0 .fields .fewStreams
+loop-holds c = (omega arith, simp (c .no-phase .ensures, filled-none))
 
 phase-at-requires : tie.Need-phase-at-requires Inv-loop μ-loop
 phase-at-requires c κs = tt
 
+-- the phases are at most six
+six : (c : tie.After-phase-at Inv-loop μ-loop) → c .before .before .before .before .before .before .args .q .count ≤ 6
+unfolding phasesAt
+six c = let s = c .before .before .before .before .before .before in rw (ap (λ q. q .count) (s .pre .1)) (few-phases (s .args .j))
+
+mul-with-need : tie.Need-mul-with-need Inv-loop μ-loop
+mul-with-need c = omega (arith, six c)
+
+array-read-with-need : tie.Need-array-read-with-need Inv-loop μ-loop
+array-read-with-need c = omega (arith, six c)
+
 with-need-requires : tie.Need-with-need-requires Inv-loop μ-loop
 with-need-requires c κs = tt
 
-mul-t18 : tie.Need-mul-t18 Inv-loop μ-loop
-mul-t18 c = omega (arith, few-phases (c .before .before .before .before .before .before .before .args .j), c .before .before .before .before .loop .inv .1)
+mul-t19 : tie.Need-mul-t19 Inv-loop μ-loop
+mul-t19 c = omega (arith, six (c .before))
 
 element-set-from-now : tie.Need-element-set-from-now Inv-loop μ-loop
-element-set-from-now c = omega (arith, few-phases (c .before .before .before .before .before .before .before .args .j), c .before .before .before .before .loop .inv .1)
+element-set-from-now c = omega (arith, six (c .before))
 
 add-i : tie.Need-add-i Inv-loop μ-loop
 add-i c = omega arith
 
 loop-less : tie.Need-loop-less Inv-loop μ-loop
-loop-less c = omega (arith, c .before .before .before .before .loop .inv .1)
+loop-less c = omega arith
 
 loop-again : tie.Need-loop-again Inv-loop μ-loop
-loop-again c =
-    let l = c .before .before .before .before .loop in
-    let s = c .before .before .before .before .before .before .before in
-    let moved = need-moved (s .args .j) (s .args .t) (l .i) (omega (arith, l .inv .1)) in (
-      omega (arith, l .inv .1),
-      l .inv .1,
-      simp (c .with-need .ensures, c .before .phase-at .ensures, c .before .before .largest .ensures, s .pre .1 .0, largest-tabled (s .args .j) (s .pre .0), s .pre .1 .1, moved, l .inv .2, filled-next),
-    )
+loop-again c = (omega arith, simp (c .with-need .ensures, c .before .phase-at .ensures, c .before .before .before .loop .inv .1, filled-next))
 
 returns : tie.Need-returns Inv-loop μ-loop
 unfolding phasesAt
 returns c =
     let l = c .before .loop in
-    l .inv .2 ∙ rw (le-antisymm (l .inv .0) (omega (arith, l .inv .1)))
+    let s = c .before .before .before .before .before in
+    let j = s .args .j in
+    let count : s .args .q .count ≡ phaseCount j = ap (λ q. q .count) (s .pre .1) in
+    let need : (k : ℕ) → k < phaseCount j → getD (c .before .before .before .needs-at .result) k 0 ≡ largest j (Need (k + 1) (s .args .t)) =
+    λ k low. c .before .before .before .needs-at .ensures k (omega (arith, few-phases j)) ∙ need-tabled j (s .pre .0) (k + 1) (s .args .t) in
+    let each : (k : ℕ) → k < phaseCount j → withNeed (phase (s .args .q) k) (getD (c .before .before .before .needs-at .result) k 0) ≡ phaseAt j (s .args .t) k =
+    λ k low. rw (s .pre .1, need k low) (need-moved j (s .args .t) k low) in
+    let made : ℕ → List Phase → Phases = λ n of. record { count = n; of = of } in
+    let filling : ℕ → Phase = λ k. withNeed (phase (s .args .q) k) (getD (c .before .before .before .needs-at .result) k 0) in
+    let places = ap (filled filling (replicate 6 noPhase)) (le-antisymm (l .inv .0) (c .loop-test .left) ∙ count) in
+    l .inv .1
+    ∙ ap₂ made count (places ∙ filled-same filling (replicate 6 noPhase) (phaseAt j (s .args .t)) (phaseCount j) each)
 
 pub at-cycle-spec : {M : Type 1} → statement M
 at-cycle-spec =
@@ -76,14 +87,14 @@ at-cycle-spec =
     (tie.spec
     Inv-loop
     μ-loop
+    needs-at-requires
     no-phase-requires
     loop-holds
-    cast-t13
-    add-t14
-    largest-requires
     phase-at-requires
+    mul-with-need
+    array-read-with-need
     with-need-requires
-    mul-t18
+    mul-t19
     element-set-from-now
     add-i
     loop-less

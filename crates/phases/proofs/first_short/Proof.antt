@@ -6,7 +6,7 @@ use lib.Dec.{ltb}
 use lib.ListN.{getD}
 use borrow.Author.Tests.{lt-ltb, le-ltb}
 use Rattle.laws.specs.Search.{firstBelow, first-found, first-next, first-out}
-use Rattle.phases.specs.Phases.{noSlot, firstShortIn}
+use Rattle.phases.specs.Slots.{noSlot, firstShortIn}
 use Rattle.phases.proofs.first_short.Statement.{statement}
 use Rattle.phases.proofs.first_short.Tie as tie
 

@@ -1,6 +1,7 @@
 -- `phases::possible` meets its contract.
 use borrow.Author.Needs.{needs}
-use Rattle.phases.specs.Phases.{sharing, possible, short-tabled}
+use Rattle.phases.specs.Phases.{sharing, possible}
+use Rattle.phases.specs.Slots.{short-tabled}
 use Rattle.phases.proofs.possible.Statement.{statement}
 use Rattle.phases.proofs.possible.Tie as tie
 

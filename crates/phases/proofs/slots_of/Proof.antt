@@ -1,6 +1,6 @@
 -- `phases::slots_of` meets its contract: the invariant is that the first i places are filled, and that start and cars so far are the sums over
 -- the places passed.
-use Prim.Native.Nat.{_+_, _-_, _*_, _≤_}
+use Prim.Native.Nat.{_-_, _*_, _≤_}
 use mathlib.Core.Path.{_≡_, sym, _∙_}
 use native.Mathlib.Nat.{le-antisymm}
 use native.Mathlib.Omega.{arith}
@@ -9,7 +9,8 @@ use borrow.Author.Tests.{lt-ltb}
 use lib.ListN.{replicate}
 use Rattle.laws.specs.Filled.{filled, filled-none, filled-next}
 use Rattle.laws.specs.Sums.{sum-none, sum-next}
-use Rattle.phases.specs.Phases.{phase, term, sum, carsBefore, greenAt, startAt, noSlot, slotAt, slotsOf}
+use Rattle.phases.specs.Phases.{phase, term, sum, carsBefore, greenAt, startAt}
+use Rattle.phases.specs.Slots.{noSlot, slotAt, slotsOf}
 use Rattle.phases.proofs.slots_of.Statement.{statement}
 use Rattle.phases.proofs.slots_of.Tie as tie
 

@@ -10,7 +10,8 @@ use Rattle.laws.specs.Ranges.{Between}
 use Rattle.questions.specs.Blank.{noStream}
 use Rattle.questions.specs.Questions.{streamNumbered}
 use Rattle.tables.specs.Places.{stream-place}
-use Rattle.phases.specs.Phases.{noSlot, slotAt, slot-place, sharing}
+use Rattle.phases.specs.Phases.{sharing}
+use Rattle.phases.specs.Slots.{noSlot, slotAt, slot-place}
 use Rattle.junction_phases.specs.JunctionPhases.{phasesAt}
 use Rattle.plans.specs.Plans.{noGreen}
 use Rattle.planning.specs.Lengths.{stream-phase, small}

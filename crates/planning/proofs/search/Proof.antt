@@ -8,7 +8,8 @@ use native.Mathlib.Omega.{arith}
 use borrow.Author.Tests.{not-true, not-false}
 use Rattle.questions.specs.Questions.{zone-numbered-at}
 use Rattle.tables.specs.Places.{stream-place, load-place, conflict-place}
-use Rattle.phases.specs.Phases.{slotsOf, possible}
+use Rattle.phases.specs.Phases.{possible}
+use Rattle.phases.specs.Slots.{slotsOf}
 use Rattle.junction_phases.specs.JunctionPhases.{phasesAt}
 use Rattle.junction_phases.specs.Placed.{few-phases}
 use Rattle.rules.specs.Rules.{needMet, capacityMet, zoneMet}
@@ -51,7 +52,7 @@ add-tried : tie.Need-add-tried Inv-loop μ-loop Inv-loop2 μ-loop2 Inv-loop3 μ-
 add-tried c = omega (arith, c .before .search .inv .count)
 
 at-cycle-requires : tie.Need-at-cycle-requires Inv-loop μ-loop Inv-loop2 μ-loop2 Inv-loop3 μ-loop3 Inv-search μ-search
-at-cycle-requires c κs = let pre = c .before .before .pre in (pre .0, (pre .1 .0, pre .1 .1 .1 .0))
+at-cycle-requires c κs = let pre = c .before .before .pre in (pre .0, pre .1 .1 .1 .0)
 
 shared-out-requires : tie.Need-shared-out-requires Inv-loop μ-loop Inv-loop2 μ-loop2 Inv-loop3 μ-loop3 Inv-search μ-search
 shared-out-requires c κs = tt

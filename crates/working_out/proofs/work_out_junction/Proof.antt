@@ -52,7 +52,7 @@ write-plan-requires c κs =
     let e : c .before .before .before .calculated .result ≡ junctionVerdict (a .j) (length (a .out .now)) =
     c .before .before .before .calculated .ensures ∙ simp (c .before .before .before .before .ratio-sum .ensures, c .before .before .before .before .before .has-room .ensures, f, found-cycle, c .before .before .before .before .before .before .before .phases-at .ensures) in
     let low = cycle-found (a .j) _ (not-refused _ (ap isRefused (sym e) ∙ sym (c .before .before .refused .ensures) ∙ c .before .if1 .left)) in
-    (c .before .before .before .before .before .before .before .before .before .before .before .pre, (c .before .before .before .before .before .before .before .before .before .loads-of .ensures, (c .before .before .before .before .before .before .before .phases-at .ensures, (rw (f, found-cycle) (cycle-works (a .j) low .1), rw (f, found-cycle) (omega (arith, low))))))
+    (c .before .before .before .before .before .before .before .before .before .before .before .pre, (c .before .before .before .before .before .before .before .phases-at .ensures, (rw (f, found-cycle) (cycle-works (a .j) low .1), rw (f, found-cycle) (omega (arith, low)))))
 
 same-length : tie.Need-same-length
 same-length c = search needs

@@ -1,7 +1,7 @@
 -- `working_out::write_plan` meets its contract: a length that works is possible.
 use borrow.Author.Needs.{needs}
 use mathlib.Core.Path.{_∙_, ap}
-use Rattle.phases.specs.Phases.{slotsOf}
+use Rattle.phases.specs.Slots.{slotsOf}
 use Rattle.planning.specs.Lengths.{works-only}
 use Rattle.working_out.proofs.write_plan.Statement.{statement}
 use Rattle.working_out.proofs.write_plan.Tie as tie
@@ -19,7 +19,7 @@ plan-at-requires : tie.Need-plan-at-requires
 plan-at-requires c κs =
     let pre = c .before .before .before .before .pre in
     let e = c .before .before .at-cycle .ensures in
-    (pre .0, (e, (c .slots-of .ensures ∙ ap (slotsOf _) (c .before .shared-out .ensures), (rw e (works-only _ _ (pre .1 .1 .1 .0) .0), pre .1 .1 .1 .1))))
+    (pre .0, (e, (c .slots-of .ensures ∙ ap (slotsOf _) (c .before .shared-out .ensures), (rw e (works-only _ _ (pre .1 .1 .0) .0), pre .1 .1 .1))))
 
 write-requires : tie.Need-write-requires
 write-requires c κs = search needs
