@@ -4,7 +4,6 @@ use native.Mathlib.Omega.{arith}
 use mathlib.Core.Bool.{true}
 use mathlib.Core.Path.{_≡_}
 use lib.ListN.{length, replicate}
-use borrow.Author.Tests.{ne-eqb, le-ltb}
 use Rattle.laws.specs.Filled.{filled-at}
 use Rattle.laws.specs.Ranges.{Between}
 use Rattle.junction.specs.declared.Junction.{Junction}
@@ -16,18 +15,18 @@ use Rattle.junction_phases.specs.JunctionPhases.{phasesAt}
 use Rattle.junction_phases.specs.Meaning.{count-phases}
 use Rattle.junction_phases.specs.Right.{phases-right}
 use Rattle.plans.specs.Plans.{greenOf, noGreen}
-use Rattle.plans.specs.WellFormed.{PlanRight}
+use Rattle.plans.specs.WellFormed.{PlanRight, green-numbered}
 use Rattle.planning.specs.Planning.{phaseGreen, planAt}
 
 module _ (j : Junction) (taken : Taken j) (t : ℕ) where
   -- every stream gets its phase's green
   pub stream-green : (n : ℕ) → Between 1 (j .held .streams) n
       → greenOf (planAt j t) n ≡ phaseGreen (phasesAt j t) (sharing (phasesAt j t) t) (streamNumbered j n .phase)
-  unfolding greenOf planAt
+  unfolding planAt
   stream-green n w =
       let few = taken .fields .fewStreams in
       let there : n - 1 + 1 ≡ n = omega arith in
-      rw (ne-eqb n 0 (omega arith), le-ltb 16 n (omega arith), filled-at (λ i. phaseGreen (phasesAt j t) (sharing (phasesAt j t) t) (streamNumbered j (i + 1) .phase)) (replicate 16 noGreen) (j .held .streams) (n - 1) noGreen (omega arith) few, there)
+      rw (green-numbered (planAt j t) n (omega arith), filled-at (λ i. phaseGreen (phasesAt j t) (sharing (phasesAt j t) t) (streamNumbered j (i + 1) .phase)) (replicate 16 noGreen) (j .held .streams) (n - 1) noGreen (omega arith) few, there)
 
   module _ (p : possible (phasesAt j t) t ≡ true) where
     -- which lies within the cycle

@@ -100,7 +100,7 @@ fn search(j: Junction, loads: Loads, conflicts: Conflicts, fixed: Phases, first:
         let p = plan_at(j, q, slots, t);
         let mut n: usize = 0;
         while n < streams {
-            if !rules::need_met(j.streams[n], plans::green_of(p, n + 1), p.cycle) {
+            if !rules::need_met(j.streams[n], p.greens[n], p.cycle) {
                 t += 1;
                 continue 'search;
             }
@@ -108,12 +108,7 @@ fn search(j: Junction, loads: Loads, conflicts: Conflicts, fixed: Phases, first:
         }
         let mut c: usize = 0;
         while c < streams {
-            if !rules::capacity_met(
-                j.streams[c],
-                loads.of[c],
-                plans::green_of(p, c + 1),
-                p.cycle,
-            ) {
+            if !rules::capacity_met(j.streams[c], loads.of[c], p.greens[c], p.cycle) {
                 t += 1;
                 continue 'search;
             }
@@ -121,7 +116,10 @@ fn search(j: Junction, loads: Loads, conflicts: Conflicts, fixed: Phases, first:
         }
         let mut z: usize = 0;
         while z < zones {
-            if !rules::zone_met(conflicts.of[z], p) {
+            let conflict = conflicts.of[z];
+            let a = conflict.a as usize - 1;
+            let b = conflict.b as usize - 1;
+            if !rules::zone_clear(p.cycle, p.greens[a], p.greens[b], conflict) {
                 t += 1;
                 continue 'search;
             }

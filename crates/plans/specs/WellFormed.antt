@@ -6,7 +6,7 @@ use mathlib.Core.List.{List}
 use mathlib.Core.Logic.{_↔_}
 use mathlib.Core.Path.{_≡_, refl}
 use lib.Dec.{leb, eqb}
-use lib.ListN.{length, replicate}
+use lib.ListN.{length, getD, replicate}
 use borrow.Author.Tests.{le-leb, leb-true, lt-ltb, le-ltb, ltb-true, eq-eqb, ne-eqb, eqb-true, eqb-false}
 use Rattle.laws.specs.Filled.{filled-at}
 use Rattle.laws.specs.Ranges.{Between}
@@ -149,10 +149,18 @@ pub cycle-read : (s : List ℕ) → planOf s .cycle ≡ numberAt s 3
 unfolding planOf
 cycle-read s = refl
 
+-- the green of a stream that has a place, by its number and by the place
+pub green-numbered : (p : Plan) (n : ℕ) → Between 1 16 n → greenOf p n ≡ getD (p .greens) (n - 1) noGreen
+unfolding greenOf
+green-numbered p n h = rw (ne-eqb n 0 (omega arith), le-ltb 16 n (omega arith))
+
+pub green-place : (p : Plan) (i : ℕ) → i < 16 → getD (p .greens) i noGreen ≡ greenOf p (i + 1)
+green-place p i h = let there : i + 1 - 1 ≡ i = omega arith in rw (green-numbered p (i + 1) (omega arith), there)
+
 pub green-read : (s : List ℕ) (streams : ℕ) → streams ≤ 16 → WellFormed s streams → (n : ℕ) → Between 1 streams n → greenOf (planOf s) n ≡ greenAt s (n - 1)
-unfolding planOf greenOf
+unfolding planOf
 green-read s streams few w n h =
-    rw (ne-eqb n 0 (omega arith), le-ltb 16 n (omega arith)) (filled-at (greenAt s) (replicate 16 noGreen) 16 (n - 1) noGreen (omega arith) (omega arith))
+    rw (green-numbered (planOf s) n (omega arith)) (filled-at (greenAt s) (replicate 16 noGreen) 16 (n - 1) noGreen (omega arith) (omega arith))
 
 pub plan-right : (s : List ℕ) (streams : ℕ) → planVerdict s streams ≡ Passed → streams ≤ 16 → PlanRight (planOf s) streams
 unfolding greenAt

@@ -1,4 +1,3 @@
 pub mod Off
 pub mod Rules
 pub mod Same
-pub mod Tabled

@@ -1,7 +1,6 @@
 -- The rules of document 01, "Judging a plan", each over all streams or zones before the next, the lowest first.
 use Prim.Native.Nat.{ℕ, _+_, _-_, _*_}
 use mathlib.Core.Bool.{Bool, _&&_, _||_, not, cond}
-use mathlib.Core.Path.{_≡_, refl}
 use lib.Dec.{leb}
 use Rattle.streams.specs.declared.Stream.{Stream}
 use Rattle.flows.specs.Needs.{needAt}
@@ -11,8 +10,7 @@ use Rattle.fields.specs.declared.Verdict.the-variants.{Passed}
 use Rattle.junction.specs.declared.Junction.{Junction}
 use Rattle.questions.specs.Questions.{streamNumbered, zoneNumbered, isCar}
 use Rattle.junction_figures.specs.Figures.{pairEntry}
-use Rattle.tables.specs.Tables.{conflictOf, loadOf}
-use Rattle.tables.specs.declared.Conflict.{Conflict}
+use Rattle.tables.specs.Tables.{loadOf}
 use Rattle.tables.specs.declared.Load.{Load}
 use Rattle.plans.specs.declared.Green.{Green}
 use Rattle.plans.specs.declared.Plan.{Plan}
@@ -44,20 +42,12 @@ unfoldable pub zoneClear : ℕ → Green → Green → ℕ → ℕ → Bool
 zoneClear cycle a b ahead behind =
     leb (a .length + ahead) (off cycle (a .start) (b .start)) && leb (off cycle (a .start) (b .start) + b .length + behind) cycle
 
-abbrev pub conflictMet : Conflict → Plan → Bool
-conflictMet c p = zoneClear (p .cycle) (greenOf p (c .a)) (greenOf p (c .b)) (c .ahead) (c .behind)
-
 -- the entries are the pair's, over all of its zones, so a pair that is too close is refused at its lowest zone
 unfoldable pub zoneMet : Junction → Plan → ℕ → Bool
-zoneMet j p n = conflictMet (conflictOf j (zoneNumbered j n)) p
-
-pub zone-by-pair : (j : Junction) (p : Plan) (n : ℕ)
-    → zoneMet j p n
-    ≡ zoneClear (p .cycle) (greenOf p (zoneNumbered j n .a .stream)) (greenOf p (zoneNumbered j n .b .stream))
-    (pairEntry j (zoneNumbered j n .a .stream) (zoneNumbered j n .b .stream))
-    (pairEntry j (zoneNumbered j n .b .stream) (zoneNumbered j n .a .stream))
-unfolding zoneMet
-zone-by-pair j p n = refl
+zoneMet j p n =
+    let a = zoneNumbered j n .a .stream in
+    let b = zoneNumbered j n .b .stream in
+    zoneClear (p .cycle) (greenOf p a) (greenOf p b) (pairEntry j a b) (pairEntry j b a)
 
 unfoldable pub rulesVerdict : Junction → Plan → Verdict
 rulesVerdict j p =

@@ -4,15 +4,14 @@ ghost use Prim.Native.Nat.{_+_, _≤_, _<_};
 ghost use Rattle.fields.specs.Verdict.{firstFailing};
 ghost use Rattle.fields.specs.declared.Verdict.the-variants.{Refused};
 ghost use Rattle.reading.specs.Taken.{Taken};
-ghost use Rattle.tables.specs.Tables.{conflictNumbered, loadsOf};
-ghost use Rattle.rules.specs.Rules.{off as offOf, enoughGreen, needMet, enoughCapacity, served, capacityMet, zoneClear, conflictMet, rulesVerdict};
+ghost use Rattle.tables.specs.Tables.{loadsOf};
+ghost use Rattle.rules.specs.Rules.{off as offOf, enoughGreen, needMet, enoughCapacity, served, capacityMet, zoneClear, zoneMet, rulesVerdict};
 use fields::Verdict;
 use junction::Junction;
 use plans::Green;
 use plans::Plan;
 use streams::Stream;
 use tables::Conflict;
-use tables::Conflicts;
 use tables::Load;
 use tables::Loads;
 
@@ -32,7 +31,7 @@ pub fn verdict(j: Junction, p: Plan) -> Verdict
     if unserved < streams {
         return broken(16, unserved);
     }
-    let unclear = first_unclear(zones, tables::conflicts_of(j), p);
+    let unclear = first_unclear(j, p);
     if unclear < zones {
         return broken(17, unclear);
     }
@@ -58,7 +57,7 @@ fn first_short(j: Junction, p: Plan) -> usize
     let streams = j.held.streams;
     let mut i: usize = 0;
     while i < streams {
-        if !need_met(j.streams[i], plans::green_of(p, i + 1), p.cycle) {
+        if !need_met(j.streams[i], p.greens[i], p.cycle) {
             return i;
         }
         i += 1;
@@ -75,12 +74,7 @@ fn first_unserved(j: Junction, loads: Loads, p: Plan) -> usize
     let streams = j.held.streams;
     let mut i: usize = 0;
     while i < streams {
-        if !capacity_met(
-            j.streams[i],
-            loads.of[i],
-            plans::green_of(p, i + 1),
-            p.cycle,
-        ) {
+        if !capacity_met(j.streams[i], loads.of[i], p.greens[i], p.cycle) {
             return i;
         }
         i += 1;
@@ -88,14 +82,30 @@ fn first_unserved(j: Junction, loads: Loads, p: Plan) -> usize
     i
 }
 
-// The first place of a zone whose streams' greens do not keep their entries apart; the number of zones where none is.
-fn first_unclear(zones: usize, conflicts: Conflicts, p: Plan) -> usize
-    requires { ⌜ zones ≤ 64 ⌝ }
-    ensures { λ r. ⌜ r ≡ firstFailing (λ n. conflictMet (conflictNumbered conflicts n) p) zones ⌝ }
+// The first place of a zone whose streams' greens do not keep their entries apart; the number of zones where none is. The entries are worked
+// out zone by zone, so that none is after the first zone that breaks the rule; the loops stay in this function, as in tables::conflicts_of.
+fn first_unclear(j: Junction, p: Plan) -> usize
+    requires { ⌜ Taken j ⌝ }
+    ensures { λ r. ⌜ r ≡ firstFailing (zoneMet j p) (j .held .zones) ⌝ }
 {
+    let zones = j.held.zones;
     let mut i: usize = 0;
     while i < zones {
-        if !zone_met(conflicts.of[i], p) {
+        let z = j.zones[i];
+        let a = z.a.stream as usize - 1;
+        let b = z.b.stream as usize - 1;
+        let first = j.streams[a];
+        let second = j.streams[b];
+        let mut c = tables::opened(z);
+        let mut k: usize = 0;
+        while k < zones {
+            let y = j.zones[k];
+            if tables::same_pair(y, z) {
+                c = tables::widened(c, first, second, y);
+            }
+            k += 1;
+        }
+        if !zone_clear(p.cycle, p.greens[a], p.greens[b], c) {
             return i;
         }
         i += 1;
@@ -124,22 +134,14 @@ fn enough_capacity(flow: u16, cycle: u16, saturation: u32, length: u16) -> bool
     flow as u64 * cycle as u64 <= saturation as u64 * (length as u64 + 1)
 }
 
-// Whether the greens of a zone's streams keep their entries apart.
-pub fn zone_met(c: Conflict, p: Plan) -> bool
-    ensures { λ r. ⌜ r ≡ conflictMet c p ⌝ }
-{
-    let a = plans::green_of(p, c.a as usize);
-    let b = plans::green_of(p, c.b as usize);
-    zone_clear(p.cycle, a, b, c.ahead, c.behind)
-}
-
-// Whether two greens of a cycle keep their entries apart: from the end of a to the start of b, and from the end of b to a's next start.
-fn zone_clear(cycle: u16, a: Green, b: Green, ahead: u16, behind: u16) -> bool
-    ensures { λ r. ⌜ r ≡ zoneClear cycle a b ahead behind ⌝ }
+// Whether the greens of a zone's two streams keep its entries apart: from the end of a to the start of b, and from the end of b to a's next
+// start.
+pub fn zone_clear(cycle: u16, a: Green, b: Green, c: Conflict) -> bool
+    ensures { λ r. ⌜ r ≡ zoneClear cycle a b (c .ahead) (c .behind) ⌝ }
 {
     let after = off(cycle, a.start, b.start);
-    (a.length as u64 + ahead as u64 <= after)
-        & (after + b.length as u64 + behind as u64 <= cycle as u64)
+    (a.length as u64 + c.ahead as u64 <= after)
+        & (after + b.length as u64 + c.behind as u64 <= cycle as u64)
 }
 
 // How long after a start of the one stream the other's next start comes: (to - from) modulo the cycle, for starts below it.

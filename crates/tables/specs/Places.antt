@@ -9,9 +9,9 @@ use Rattle.laws.specs.Ranges.{Between}
 use Rattle.junction.specs.Layout.{mostStreams, mostZones}
 use Rattle.junction.specs.declared.Junction.{Junction}
 use Rattle.questions.specs.Blank.{noStream, noZone}
-use Rattle.questions.specs.Questions.{streamAt, zoneAt, streamNumbered, numbered-at, zoneNumbered, zone-numbered-at}
+use Rattle.questions.specs.Questions.{streamAt, zoneAt, streamNumbered, numbered-at}
 use Rattle.reading.specs.Taken.{Taken, ZoneRight}
-use Rattle.tables.specs.Tables.{conflictOf, noConflict, conflictsOf, conflictNumbered, loadOf, noLoad, loadsOf}
+use Rattle.tables.specs.Tables.{conflictOf, noConflict, conflictsOf, loadOf, noLoad, loadsOf}
 
 module _ (j : Junction) (taken : Taken j) (i : ℕ) where
   pub stream-place : i < j .held .streams → getD (j .streams) i noStream ≡ streamNumbered j (i + 1)
@@ -35,12 +35,6 @@ module _ (j : Junction) (taken : Taken j) (i : ℕ) where
   unfolding conflictsOf
   conflict-place h =
       filled-at (λ k. conflictOf j (zoneAt j k)) (replicate mostZones noConflict) (j .held .zones) i noConflict h (taken .fields .fewZones)
-
-  pub conflict-numbered : Between 1 (j .held .zones) i → conflictNumbered (conflictsOf j) i ≡ conflictOf j (zoneNumbered j i)
-  unfolding conflictsOf
-  conflict-numbered w =
-      rw (zone-numbered-at j i (w .0))
-      (filled-at (λ k. conflictOf j (zoneAt j k)) (replicate mostZones noConflict) (j .held .zones) (i - 1) noConflict (omega arith) (taken .fields .fewZones))
 
   pub load-place : i < j .held .streams → getD (loadsOf j .of) i noLoad ≡ loadOf j (i + 1)
   unfolding loadsOf

@@ -1,15 +1,17 @@
 -- Figures of a junction's zones and streams, worked out once: each place holds what the annex's definitions give.
-use Prim.Native.Nat.{ℕ, _+_, _-_}
-use lib.ListN.{getD, replicate}
+use Prim.Native.Nat.{ℕ, _+_, max}
+use lib.ListN.{replicate}
 use Rattle.laws.specs.Filled.{filled}
+use Rattle.laws.specs.Largest.{largestOf}
 use Rattle.streams.specs.declared.Stream.{Stream}
 use Rattle.counts.specs.Newest.{rankFlow}
+use Rattle.times.specs.Entry.{entry}
 use Rattle.flows.specs.Saturation.{flowRatio}
 use Rattle.junction.specs.Layout.{mostStreams, mostZones}
 use Rattle.junction.specs.declared.Junction.{Junction}
 use Rattle.junction.specs.declared.Zone.{Zone}
 use Rattle.questions.specs.Questions.{zoneAt}
-use Rattle.junction_figures.specs.Figures.{pairEntry, streamFlow, kindSaturation, streamSaturation, streamRatio}
+use Rattle.junction_figures.specs.Figures.{zoneEntry, pairEntry, streamFlow, kindSaturation, streamSaturation, streamRatio}
 use Rattle.tables.specs.declared.Conflict.{Conflict}
 use Rattle.tables.specs.declared.Conflicts.{Conflicts}
 use Rattle.tables.specs.declared.Load.{Load}
@@ -25,15 +27,33 @@ conflictOf j z =
       behind = pairEntry j (z .b .stream) (z .a .stream);
     }
 
+-- the entries over the first k zones alone: with no zone looked at they are 0, and a zone of the pair widens them
+abbrev pub conflictBy : Junction → Zone → ℕ → Conflict
+conflictBy j z k =
+    record {
+      a = z .a .stream;
+      b = z .b .stream;
+      ahead = largestOf (λ i. zoneEntry j (z .a .stream) (z .b .stream) (zoneAt j i)) k;
+      behind = largestOf (λ i. zoneEntry j (z .b .stream) (z .a .stream) (zoneAt j i)) k;
+    }
+
+abbrev pub openedAt : Zone → Conflict
+openedAt z = record { a = z .a .stream; b = z .b .stream; ahead = 0; behind = 0 }
+
+abbrev pub widenedBy : Conflict → Stream → Stream → Zone → Conflict
+widenedBy c first second y =
+    record {
+      a = c .a;
+      b = c .b;
+      ahead = max (c .ahead) (entry first second (y .a .clearing) (y .b .reaching));
+      behind = max (c .behind) (entry second first (y .b .clearing) (y .a .reaching));
+    }
+
 abbrev pub noConflict : Conflict
 noConflict = record { a = 0; b = 0; ahead = 0; behind = 0 }
 
 unfoldable pub conflictsOf : Junction → Conflicts
 conflictsOf j = record { of = filled (λ i. conflictOf j (zoneAt j i)) (replicate mostZones noConflict) (j .held .zones) }
-
--- the conflict of the zone with a number, from 1; asked of no other number
-abbrev pub conflictNumbered : Conflicts → ℕ → Conflict
-conflictNumbered x n = getD (x .of) (n - 1) noConflict
 
 -- the load of a stream by the rank of its newest count
 abbrev pub loadBy : ℕ → Stream → Load

@@ -3,7 +3,7 @@ ghost use mathlib.Core.Bool.{_&&_};
 ghost use mathlib.Core.Path.{_≡_};
 ghost use lib.Dec.{eqb};
 ghost use Rattle.reading.specs.Taken.{Taken};
-ghost use Rattle.tables.specs.Tables.{noConflict, conflictsOf, noLoad, loadBy, loadsOf};
+ghost use Rattle.tables.specs.Tables.{noConflict, openedAt, widenedBy, conflictsOf, noLoad, loadBy, loadsOf};
 use junction::Junction;
 use junction::Zone;
 use junction_figures::larger;
@@ -46,10 +46,36 @@ fn no_conflict() -> Conflict
 }
 
 // Whether two zones are of the same pair of streams.
-fn same_pair(y: Zone, z: Zone) -> bool
+pub fn same_pair(y: Zone, z: Zone) -> bool
     ensures { λ r. ⌜ r ≡ (eqb (y .a .stream) (z .a .stream) && eqb (y .b .stream) (z .b .stream)) ⌝ }
 {
     (y.a.stream == z.a.stream) & (y.b.stream == z.b.stream)
+}
+
+// The conflict of a zone before any zone of its pair is looked at: entries of 0.
+pub fn opened(z: Zone) -> Conflict
+    ensures { λ r. ⌜ r ≡ openedAt z ⌝ }
+{
+    Conflict {
+        a: z.a.stream,
+        b: z.b.stream,
+        ahead: 0,
+        behind: 0,
+    }
+}
+
+// A conflict after one more zone of its pair, of the streams first and second: each entry is the larger of the one so far and the zone's.
+pub fn widened(c: Conflict, first: Stream, second: Stream, y: Zone) -> Conflict
+    ensures { λ r. ⌜ r ≡ widenedBy c first second y ⌝ }
+{
+    let ahead = times::entry(first, second, y.a.clearing, y.b.reaching);
+    let behind = times::entry(second, first, y.b.clearing, y.a.reaching);
+    Conflict {
+        a: c.a,
+        b: c.b,
+        ahead: larger(c.ahead, ahead),
+        behind: larger(c.behind, behind),
+    }
 }
 
 // The conflicts of a junction: at each zone, the entries are the largest over all zones of the pair. The loops stay in this function, since
@@ -67,29 +93,16 @@ pub fn conflicts_of(j: Junction) -> Conflicts
         let z = j.zones[i];
         let first = j.streams[z.a.stream as usize - 1];
         let second = j.streams[z.b.stream as usize - 1];
-        let mut ahead: u16 = 0;
-        let mut behind: u16 = 0;
+        let mut c = opened(z);
         let mut k: usize = 0;
         while k < zones {
             let y = j.zones[k];
             if same_pair(y, z) {
-                ahead = larger(
-                    ahead,
-                    times::entry(first, second, y.a.clearing, y.b.reaching),
-                );
-                behind = larger(
-                    behind,
-                    times::entry(second, first, y.b.clearing, y.a.reaching),
-                );
+                c = widened(c, first, second, y);
             }
             k += 1;
         }
-        all.of[i] = Conflict {
-            a: z.a.stream,
-            b: z.b.stream,
-            ahead,
-            behind,
-        };
+        all.of[i] = c;
         i += 1;
     }
     all

@@ -1,21 +1,40 @@
 -- `planning::search` meets its contract: before each length what is left finds what the whole finds; within a length each inner loop has
 -- shown its rule for the numbers passed.
-use Prim.Native.Nat.{_+_, _-_, _≤_}
+use Prim.Native.Nat.{ℕ, _+_, _-_, _≤_, _<_}
 use mathlib.Core.Bool.{not}
 use mathlib.Core.Path.{_≡_, refl, sym, _∙_, ap, subst}
 use native.Mathlib.Nat.{le-antisymm}
 use native.Mathlib.Omega.{arith}
+use borrow.Author.Needs.{needs}
 use borrow.Author.Tests.{not-true, not-false}
-use Rattle.questions.specs.Questions.{zone-numbered-at}
+use lib.ListN.{getD}
+use Rattle.laws.specs.Ranges.{Between}
+use Rattle.junction.specs.declared.Junction.{Junction}
+use Rattle.questions.specs.Questions.{zoneAt, zone-numbered-at}
+use Rattle.reading.specs.Taken.{Taken}
 use Rattle.tables.specs.Places.{stream-place, load-place, conflict-place}
+use Rattle.tables.specs.Tables.{noConflict, conflictsOf}
+use Rattle.tables.specs.declared.Conflict.{Conflict}
+use Rattle.tables.specs.declared.Conflicts.{Conflicts}
 use Rattle.phases.specs.Phases.{possible}
 use Rattle.phases.specs.Slots.{slotsOf}
 use Rattle.junction_phases.specs.JunctionPhases.{phasesAt}
 use Rattle.junction_phases.specs.Placed.{few-phases}
+use Rattle.plans.specs.WellFormed.{green-numbered, green-place}
 use Rattle.rules.specs.Rules.{needMet, capacityMet, zoneMet}
 use Rattle.planning.specs.Search.{Rest, Trying, Met, met-none, met-next, rest-begins, rest-impossible, rest-trying, rest-none, need-broken, capacity-broken, zone-broken, trying-found}
 use Rattle.planning.proofs.search.Statement.{statement}
 use Rattle.planning.proofs.search.Tie as tie
+
+-- the streams of a conflict of the table have places
+record Ends (j : Junction) (x : Conflict) : Type 0 where
+  a : Between 1 (j .held .streams) (x .a)
+  b : Between 1 (j .held .streams) (x .b)
+
+ends : (j : Junction) → Taken j → {x : Conflicts} → x ≡ conflictsOf j → (i : ℕ) → i < j .held .zones → Ends j (getD (x .of) i noConflict)
+ends j taken e i low =
+    let right = taken .fields .zones i low in
+    rw (e, conflict-place j taken i low) (record { a = right .a .existing; b = right .b .existing })
 
 abbrev Inv-loop : tie.InvT-loop
 Inv-loop fixed first j loads conflicts streams zones t₀ tried p n₀ t n =
@@ -52,7 +71,7 @@ add-tried : tie.Need-add-tried Inv-loop μ-loop Inv-loop2 μ-loop2 Inv-loop3 μ-
 add-tried c = omega (arith, c .before .search .inv .count)
 
 at-cycle-requires : tie.Need-at-cycle-requires Inv-loop μ-loop Inv-loop2 μ-loop2 Inv-loop3 μ-loop3 Inv-search μ-search
-at-cycle-requires c κs = let pre = c .before .before .pre in (pre .0, pre .1 .1 .1 .0)
+at-cycle-requires c κs = (c .before .before .pre .0, c .before .before .pre .1 .1 .1 .0)
 
 shared-out-requires : tie.Need-shared-out-requires Inv-loop μ-loop Inv-loop2 μ-loop2 Inv-loop3 μ-loop3 Inv-search μ-search
 shared-out-requires c κs = tt
@@ -77,7 +96,7 @@ search-again : tie.Need-search-again Inv-loop μ-loop Inv-loop2 μ-loop2 Inv-loo
 search-again c =
     let l = c .before .before .before .before .before .before .search in
     rest-impossible (c .before .before .before .before .before .before .before .args .t1) (c .before .before .before .before .before .before .before .args .first) (l .t) (l .tried) (l .inv) (c .before .before .before .before .before .if1 .left)
-    (not-true _ (ap not (sym (c .before .possible .ensures ∙ ap (λ q. possible q (c .before .before .before .before .before .before .search .t)) (c .before .before .before .before .at-cycle .ensures))) ∙ c .if2 .taken))
+    (not-true _ (ap not (sym (c .before .possible .ensures ∙ ap (λ q. possible q (l .t)) (c .before .before .before .before .at-cycle .ensures))) ∙ c .if2 .taken))
 
 plan-at-requires : tie.Need-plan-at-requires Inv-loop μ-loop Inv-loop2 μ-loop2 Inv-loop3 μ-loop3 Inv-search μ-search
 plan-at-requires c κs = (
@@ -91,7 +110,7 @@ loop-holds c =
       refl,
       omega arith,
       rest-trying (c .before .before .before .before .before .before .before .before .args .t1) (c .before .before .before .before .before .before .before .before .args .first) (l .t) (l .tried) _ (l .inv) (c .before .before .before .before .before .before .if1 .left)
-          (not-false _ (ap not (sym (c .before .before .possible .ensures ∙ ap (λ q. possible q (c .before .before .before .before .before .before .before .search .t)) (c .before .before .before .before .before .at-cycle .ensures))) ∙ c .before .if2 .left)) (c .plan-at .ensures),
+          (not-false _ (ap not (sym (c .before .before .possible .ensures ∙ ap (λ q. possible q (l .t)) (c .before .before .before .before .before .at-cycle .ensures))) ∙ c .before .if2 .left)) (c .plan-at .ensures),
       met-none _,
     )
 
@@ -101,21 +120,21 @@ mul-need-met c = omega (arith, c .before .before .before .before .before .before
 element-copy-out-need-met : tie.Need-element-copy-out-need-met Inv-loop μ-loop Inv-loop2 μ-loop2 Inv-loop3 μ-loop3 Inv-search μ-search
 element-copy-out-need-met c = omega (arith, c .before .before .before .before .before .before .before .before .before .before .pre .0 .fields .fewStreams)
 
-add-green-of : tie.Need-add-green-of Inv-loop μ-loop Inv-loop2 μ-loop2 Inv-loop3 μ-loop3 Inv-search μ-search
-add-green-of c = omega arith
+mul-need-met-2 : tie.Need-mul-need-met-2 Inv-loop μ-loop Inv-loop2 μ-loop2 Inv-loop3 μ-loop3 Inv-search μ-search
+mul-need-met-2 c = omega (arith, c .before .before .before .before .before .before .before .before .before .before .before .pre .0 .fields .fewStreams)
 
-green-of-requires : tie.Need-green-of-requires Inv-loop μ-loop Inv-loop2 μ-loop2 Inv-loop3 μ-loop3 Inv-search μ-search
-green-of-requires c κs = tt
+element-copy-out-need-met-2 : tie.Need-element-copy-out-need-met-2 Inv-loop μ-loop Inv-loop2 μ-loop2 Inv-loop3 μ-loop3 Inv-search μ-search
+element-copy-out-need-met-2 c = omega (arith, c .before .before .before .before .before .before .before .before .before .before .before .pre .0 .fields .fewStreams)
 
 need-met-requires : tie.Need-need-met-requires Inv-loop μ-loop Inv-loop2 μ-loop2 Inv-loop3 μ-loop3 Inv-search μ-search
 need-met-requires c κs = tt
 
-need-here : (c : tie.After-need-met Inv-loop μ-loop Inv-loop2 μ-loop2 Inv-loop3 μ-loop3 Inv-search μ-search)
-    → c .need-met .result ≡ needMet (c .before .before .before .before .before .before .before .before .before .before .before .before .before .args .t1) (c .before .before .before .before .before .plan-at .result) (c .before .before .before .before .loop .n + 1)
+need-here : (c : tie.After-need-met Inv-loop μ-loop Inv-loop2 μ-loop2 Inv-loop3 μ-loop3 Inv-search μ-search) → c .need-met .result ≡ needMet (c .before .before .before .before .before .before .before .before .before .before .before .before .before .args .t1) (c .before .before .before .before .before .plan-at .result) (c .before .before .before .before .loop .n + 1)
 unfolding needMet
 need-here c =
-    let s = c .before .before .before .before .before .before .before .before .before .before .before .before .before in
-    simp (c .need-met .ensures, c .before .green-of .ensures, stream-place (s .args .t1) (s .pre .0) (c .before .before .before .before .loop .n) (c .before .before .before .loop-test .taken))
+    let n = c .before .before .before .before .loop .n in
+    let low = c .before .before .before .loop-test .taken in
+    simp (c .need-met .ensures, green-place (c .before .before .before .before .before .plan-at .result) n (omega (arith, c .before .before .before .before .before .before .before .before .before .before .before .before .before .pre .0 .fields .fewStreams)), stream-place (c .before .before .before .before .before .before .before .before .before .before .before .before .before .args .t1) (c .before .before .before .before .before .before .before .before .before .before .before .before .before .pre .0) n low)
 
 add-t-2 : tie.Need-add-t-2 Inv-loop μ-loop Inv-loop2 μ-loop2 Inv-loop3 μ-loop3 Inv-search μ-search
 add-t-2 c = omega (arith, c .before .before .before .before .before .loop .inv .2 .high)
@@ -137,12 +156,8 @@ loop-less c = omega arith
 
 loop-again : tie.Need-loop-again Inv-loop μ-loop Inv-loop2 μ-loop2 Inv-loop3 μ-loop3 Inv-search μ-search
 loop-again c =
-    let l = c .before .before .before .before .before .loop in (
-      l .inv .0,
-      omega arith,
-      l .inv .2,
-      met-next _ (l .n) (l .inv .3) (not-false _ (ap not (sym (need-here (c .before))) ∙ c .if3 .left)),
-    )
+    let l = c .before .before .before .before .before .loop in
+    (l .inv .0, omega arith, l .inv .2, met-next _ (l .n) (l .inv .3) (not-false _ (ap not (sym (need-here (c .before))) ∙ c .if3 .left)))
 
 loop2-holds : tie.Need-loop2-holds Inv-loop μ-loop Inv-loop2 μ-loop2 Inv-loop3 μ-loop3 Inv-search μ-search
 loop2-holds c =
@@ -161,23 +176,21 @@ mul-capacity-met-2 c = omega (arith, c .before .before .before .before .before .
 element-copy-out-capacity-met-2 : tie.Need-element-copy-out-capacity-met-2 Inv-loop μ-loop Inv-loop2 μ-loop2 Inv-loop3 μ-loop3 Inv-search μ-search
 element-copy-out-capacity-met-2 c = omega (arith, c .before .before .before .before .before .before .before .before .before .before .before .before .before .pre .0 .fields .fewStreams)
 
-add-green-of-2 : tie.Need-add-green-of-2 Inv-loop μ-loop Inv-loop2 μ-loop2 Inv-loop3 μ-loop3 Inv-search μ-search
-add-green-of-2 c = omega arith
+mul-capacity-met-3 : tie.Need-mul-capacity-met-3 Inv-loop μ-loop Inv-loop2 μ-loop2 Inv-loop3 μ-loop3 Inv-search μ-search
+mul-capacity-met-3 c = omega (arith, c .before .before .before .before .before .before .before .before .before .before .before .before .before .before .pre .0 .fields .fewStreams)
 
-green-of-requires-2 : tie.Need-green-of-requires-2 Inv-loop μ-loop Inv-loop2 μ-loop2 Inv-loop3 μ-loop3 Inv-search μ-search
-green-of-requires-2 c κs = tt
+element-copy-out-capacity-met-3 : tie.Need-element-copy-out-capacity-met-3 Inv-loop μ-loop Inv-loop2 μ-loop2 Inv-loop3 μ-loop3 Inv-search μ-search
+element-copy-out-capacity-met-3 c = omega (arith, c .before .before .before .before .before .before .before .before .before .before .before .before .before .before .pre .0 .fields .fewStreams)
 
 capacity-met-requires : tie.Need-capacity-met-requires Inv-loop μ-loop Inv-loop2 μ-loop2 Inv-loop3 μ-loop3 Inv-search μ-search
 capacity-met-requires c κs = tt
 
-capacity-here : (c : tie.After-capacity-met Inv-loop μ-loop Inv-loop2 μ-loop2 Inv-loop3 μ-loop3 Inv-search μ-search)
-    → c .capacity-met .result ≡ capacityMet (c .before .before .before .before .before .before .before .before .before .before .before .before .before .before .before .before .args .t1) (c .before .before .before .before .before .before .before .before .plan-at .result) (c .before .before .before .before .before .loop2 .c + 1)
+capacity-here : (c : tie.After-capacity-met Inv-loop μ-loop Inv-loop2 μ-loop2 Inv-loop3 μ-loop3 Inv-search μ-search) → c .capacity-met .result ≡ capacityMet (c .before .before .before .before .before .before .before .before .before .before .before .before .before .before .before .before .args .t1) (c .before .before .before .before .before .before .before .before .plan-at .result) (c .before .before .before .before .before .loop2 .c + 1)
 unfolding capacityMet
 capacity-here c =
-    let s = c .before .before .before .before .before .before .before .before .before .before .before .before .before .before .before .before in
     let i = c .before .before .before .before .before .loop2 .c in
     let low = c .before .before .before .before .loop2-test .taken in
-    simp (c .capacity-met .ensures, c .before .green-of2 .ensures, s .pre .1 .0, stream-place (s .args .t1) (s .pre .0) i low, load-place (s .args .t1) (s .pre .0) i low)
+    simp (c .capacity-met .ensures, green-place (c .before .before .before .before .before .before .before .before .plan-at .result) i (omega (arith, c .before .before .before .before .before .before .before .before .before .before .before .before .before .before .before .before .pre .0 .fields .fewStreams)), c .before .before .before .before .before .before .before .before .before .before .before .before .before .before .before .before .pre .1 .0, stream-place (c .before .before .before .before .before .before .before .before .before .before .before .before .before .before .before .before .args .t1) (c .before .before .before .before .before .before .before .before .before .before .before .before .before .before .before .before .pre .0) i low, load-place (c .before .before .before .before .before .before .before .before .before .before .before .before .before .before .before .before .args .t1) (c .before .before .before .before .before .before .before .before .before .before .before .before .before .before .before .before .pre .0) i low)
 
 add-t-3 : tie.Need-add-t-3 Inv-loop μ-loop Inv-loop2 μ-loop2 Inv-loop3 μ-loop3 Inv-search μ-search
 add-t-3 c = omega (arith, c .before .before .before .before .before .before .loop2 .inv .2 .high)
@@ -199,59 +212,81 @@ loop2-less c = omega arith
 
 loop2-again : tie.Need-loop2-again Inv-loop μ-loop Inv-loop2 μ-loop2 Inv-loop3 μ-loop3 Inv-search μ-search
 loop2-again c =
-    let l = c .before .before .before .before .before .before .loop2 in (
-      l .inv .0,
-      omega arith,
-      l .inv .2,
-      l .inv .3,
-      met-next _ (l .c) (l .inv .4) (not-false _ (ap not (sym (capacity-here (c .before))) ∙ c .if4 .left)),
-    )
+    let l = c .before .before .before .before .before .before .loop2 in
+    (l .inv .0, omega arith, l .inv .2, l .inv .3, met-next _ (l .c) (l .inv .4) (not-false _ (ap not (sym (capacity-here (c .before))) ∙ c .if4 .left)))
 
 loop3-holds : tie.Need-loop3-holds Inv-loop μ-loop Inv-loop2 μ-loop2 Inv-loop3 μ-loop3 Inv-search μ-search
 loop3-holds c =
     let l = c .before .loop2 in
     (refl, omega arith, l .inv .2, l .inv .3, subst (Met _) (le-antisymm (l .inv .1) (c .loop2-test .left)) (l .inv .4), met-none _)
 
-mul-zone-met : tie.Need-mul-zone-met Inv-loop μ-loop Inv-loop2 μ-loop2 Inv-loop3 μ-loop3 Inv-search μ-search
-mul-zone-met c = omega (arith, c .before .before .before .before .before .before .before .before .before .before .before .before .before .before .pre .0 .fields .fewZones)
+mul-conflict : tie.Need-mul-conflict Inv-loop μ-loop Inv-loop2 μ-loop2 Inv-loop3 μ-loop3 Inv-search μ-search
+mul-conflict c = omega (arith, c .before .before .before .before .before .before .before .before .before .before .before .before .before .before .pre .0 .fields .fewZones)
 
-element-copy-out-zone-met : tie.Need-element-copy-out-zone-met Inv-loop μ-loop Inv-loop2 μ-loop2 Inv-loop3 μ-loop3 Inv-search μ-search
-element-copy-out-zone-met c = omega (arith, c .before .before .before .before .before .before .before .before .before .before .before .before .before .before .pre .0 .fields .fewZones)
+element-copy-out-conflict : tie.Need-element-copy-out-conflict Inv-loop μ-loop Inv-loop2 μ-loop2 Inv-loop3 μ-loop3 Inv-search μ-search
+element-copy-out-conflict c = omega (arith, c .before .before .before .before .before .before .before .before .before .before .before .before .before .before .pre .0 .fields .fewZones)
 
-zone-met-requires : tie.Need-zone-met-requires Inv-loop μ-loop Inv-loop2 μ-loop2 Inv-loop3 μ-loop3 Inv-search μ-search
-zone-met-requires c κs = tt
+cast-a : tie.Need-cast-a Inv-loop μ-loop Inv-loop2 μ-loop2 Inv-loop3 μ-loop3 Inv-search μ-search
+cast-a c = search needs
 
-zone-here : (c : tie.After-zone-met Inv-loop μ-loop Inv-loop2 μ-loop2 Inv-loop3 μ-loop3 Inv-search μ-search)
-    → c .zone-met .result ≡ zoneMet (c .before .before .before .before .before .before .before .before .before .before .before .before .before .before .before .before .args .t1) (c .before .before .before .before .before .before .before .before .plan-at .result) (c .before .before .before .loop3 .z + 1)
+sub-a : tie.Need-sub-a Inv-loop μ-loop Inv-loop2 μ-loop2 Inv-loop3 μ-loop3 Inv-search μ-search
+sub-a c = ends (c .before .before .before .before .before .before .before .before .before .before .before .before .before .before .before .before .args .t1) (c .before .before .before .before .before .before .before .before .before .before .before .before .before .before .before .before .pre .0) (c .before .before .before .before .before .before .before .before .before .before .before .before .before .before .before .before .pre .1 .1 .0) (c .before .before .before .loop3 .z) (c .before .before .loop3-test .taken) .a .0
+
+cast-b : tie.Need-cast-b Inv-loop μ-loop Inv-loop2 μ-loop2 Inv-loop3 μ-loop3 Inv-search μ-search
+cast-b c = search needs
+
+sub-b : tie.Need-sub-b Inv-loop μ-loop Inv-loop2 μ-loop2 Inv-loop3 μ-loop3 Inv-search μ-search
+sub-b c = ends (c .before .before .before .before .before .before .before .before .before .before .before .before .before .before .before .before .before .args .t1) (c .before .before .before .before .before .before .before .before .before .before .before .before .before .before .before .before .before .pre .0) (c .before .before .before .before .before .before .before .before .before .before .before .before .before .before .before .before .before .pre .1 .1 .0) (c .before .before .before .before .loop3 .z) (c .before .before .before .loop3-test .taken) .b .0
+
+mul-zone-clear : tie.Need-mul-zone-clear Inv-loop μ-loop Inv-loop2 μ-loop2 Inv-loop3 μ-loop3 Inv-search μ-search
+mul-zone-clear c = omega (arith, c .before .before .before .before .before .before .before .before .before .before .before .before .before .before .before .before .before .pre .0 .fields .fewStreams, ends (c .before .before .before .before .before .before .before .before .before .before .before .before .before .before .before .before .before .args .t1) (c .before .before .before .before .before .before .before .before .before .before .before .before .before .before .before .before .before .pre .0) (c .before .before .before .before .before .before .before .before .before .before .before .before .before .before .before .before .before .pre .1 .1 .0) (c .before .before .before .before .loop3 .z) (c .before .before .before .loop3-test .taken) .a)
+
+element-copy-out-zone-clear : tie.Need-element-copy-out-zone-clear Inv-loop μ-loop Inv-loop2 μ-loop2 Inv-loop3 μ-loop3 Inv-search μ-search
+element-copy-out-zone-clear c = omega (arith, c .before .before .before .before .before .before .before .before .before .before .before .before .before .before .before .before .before .pre .0 .fields .fewStreams, ends (c .before .before .before .before .before .before .before .before .before .before .before .before .before .before .before .before .before .args .t1) (c .before .before .before .before .before .before .before .before .before .before .before .before .before .before .before .before .before .pre .0) (c .before .before .before .before .before .before .before .before .before .before .before .before .before .before .before .before .before .pre .1 .1 .0) (c .before .before .before .before .loop3 .z) (c .before .before .before .loop3-test .taken) .a)
+
+mul-zone-clear-2 : tie.Need-mul-zone-clear-2 Inv-loop μ-loop Inv-loop2 μ-loop2 Inv-loop3 μ-loop3 Inv-search μ-search
+mul-zone-clear-2 c = omega (arith, c .before .before .before .before .before .before .before .before .before .before .before .before .before .before .before .before .before .before .pre .0 .fields .fewStreams, ends (c .before .before .before .before .before .before .before .before .before .before .before .before .before .before .before .before .before .before .args .t1) (c .before .before .before .before .before .before .before .before .before .before .before .before .before .before .before .before .before .before .pre .0) (c .before .before .before .before .before .before .before .before .before .before .before .before .before .before .before .before .before .before .pre .1 .1 .0) (c .before .before .before .before .before .loop3 .z) (c .before .before .before .before .loop3-test .taken) .b)
+
+element-copy-out-zone-clear-2 : tie.Need-element-copy-out-zone-clear-2 Inv-loop μ-loop Inv-loop2 μ-loop2 Inv-loop3 μ-loop3 Inv-search μ-search
+element-copy-out-zone-clear-2 c = omega (arith, c .before .before .before .before .before .before .before .before .before .before .before .before .before .before .before .before .before .before .pre .0 .fields .fewStreams, ends (c .before .before .before .before .before .before .before .before .before .before .before .before .before .before .before .before .before .before .args .t1) (c .before .before .before .before .before .before .before .before .before .before .before .before .before .before .before .before .before .before .pre .0) (c .before .before .before .before .before .before .before .before .before .before .before .before .before .before .before .before .before .before .pre .1 .1 .0) (c .before .before .before .before .before .loop3 .z) (c .before .before .before .before .loop3-test .taken) .b)
+
+zone-clear-requires : tie.Need-zone-clear-requires Inv-loop μ-loop Inv-loop2 μ-loop2 Inv-loop3 μ-loop3 Inv-search μ-search
+zone-clear-requires c κs = tt
+
+zone-here : (c : tie.After-zone-clear Inv-loop μ-loop Inv-loop2 μ-loop2 Inv-loop3 μ-loop3 Inv-search μ-search) → c .zone-clear .result ≡ zoneMet (c .before .before .before .before .before .before .before .before .before .before .before .before .before .before .before .before .before .before .before .before .args .t1) (c .before .before .before .before .before .before .before .before .before .before .before .before .plan-at .result) (c .before .before .before .before .before .before .before .loop3 .z + 1)
 unfolding zoneMet
 zone-here c =
-    let s = c .before .before .before .before .before .before .before .before .before .before .before .before .before .before .before .before in
-    let i = c .before .before .before .loop3 .z in
+    let j = c .before .before .before .before .before .before .before .before .before .before .before .before .before .before .before .before .before .before .before .before .args .t1 in
+    let i = c .before .before .before .before .before .before .before .loop3 .z in
+    let low = c .before .before .before .before .before .before .loop3-test .taken in
     let there : i + 1 - 1 ≡ i = omega arith in
-    rw (zone-numbered-at (s .args .t1) (i + 1) (omega arith), there)
-    (simp (c .zone-met .ensures, s .pre .1 .1 .0, conflict-place (s .args .t1) (s .pre .0) i (c .before .before .loop3-test .taken)))
+    let place = conflict-place j (c .before .before .before .before .before .before .before .before .before .before .before .before .before .before .before .before .before .before .before .before .pre .0) i low in
+    let right = c .before .before .before .before .before .before .before .before .before .before .before .before .before .before .before .before .before .before .before .before .pre .0 .fields .zones i low in
+    let a = green-numbered (c .before .before .before .before .before .before .before .before .before .before .before .before .plan-at .result) (zoneAt j i .a .stream) (omega (arith, c .before .before .before .before .before .before .before .before .before .before .before .before .before .before .before .before .before .before .before .before .pre .0 .fields .fewStreams, right .a .existing)) in
+    let b = green-numbered (c .before .before .before .before .before .before .before .before .before .before .before .before .plan-at .result) (zoneAt j i .b .stream) (omega (arith, c .before .before .before .before .before .before .before .before .before .before .before .before .before .before .before .before .before .before .before .before .pre .0 .fields .fewStreams, right .b .existing)) in
+    rw (zone-numbered-at j (i + 1) (omega arith), there, a, b) (simp (c .zone-clear .ensures, c .before .before .before .before .before .before .before .before .before .before .before .before .before .before .before .before .before .before .before .before .pre .1 .1 .0, place))
 
 add-t-4 : tie.Need-add-t-4 Inv-loop μ-loop Inv-loop2 μ-loop2 Inv-loop3 μ-loop3 Inv-search μ-search
-add-t-4 c = omega (arith, c .before .before .before .before .loop3 .inv .2 .high)
+add-t-4 c = omega (arith, c .before .before .before .before .before .before .before .before .loop3 .inv .2 .high)
 
 search-less-4 : tie.Need-search-less-4 Inv-loop μ-loop Inv-loop2 μ-loop2 Inv-loop3 μ-loop3 Inv-search μ-search
-search-less-4 c = omega (arith, c .before .before .before .before .loop3 .inv .0, c .before .before .before .before .loop3 .inv .2 .high, c .before .before .before .before .before .before .loop2 .inv .0, c .before .before .before .before .before .before .before .before .loop .inv .0)
+search-less-4 c = omega (arith, c .before .before .before .before .before .before .before .before .loop3 .inv .0, c .before .before .before .before .before .before .before .before .loop3 .inv .2 .high, c .before .before .before .before .before .before .before .before .before .before .loop2 .inv .0, c .before .before .before .before .before .before .before .before .before .before .before .before .loop .inv .0)
 
 search-again-4 : tie.Need-search-again-4 Inv-loop μ-loop Inv-loop2 μ-loop2 Inv-loop3 μ-loop3 Inv-search μ-search
 search-again-4 c =
-    let l = c .before .before .before .before .loop3 in
-    zone-broken (c .before .before .before .before .before .before .before .before .before .before .before .before .before .before .before .before .before .args .t1) (c .before .before .before .before .before .before .before .before .before .before .before .before .before .before .before .before .before .args .first) (l .t) _ _ (l .inv .2) (l .z + 1) (omega arith)
+    let l = c .before .before .before .before .before .before .before .before .loop3 in
+    zone-broken (c .before .before .before .before .before .before .before .before .before .before .before .before .before .before .before .before .before .before .before .before .before .args .t1) (c .before .before .before .before .before .before .before .before .before .before .before .before .before .before .before .before .before .before .before .before .before .args .first) (l .t) _ _ (l .inv .2) (l .z + 1) (omega arith)
     (not-true _ (ap not (sym (zone-here (c .before))) ∙ c .if5 .taken))
 
 add-z : tie.Need-add-z Inv-loop μ-loop Inv-loop2 μ-loop2 Inv-loop3 μ-loop3 Inv-search μ-search
-add-z c = omega (arith, c .before .before .before .loop3-test .taken, c .before .before .before .before .before .before .before .before .before .before .before .before .before .before .before .before .before .pre .0 .fields .fewZones)
+add-z c = omega (arith, c .before .before .before .before .before .before .before .loop3-test .taken, c .before .before .before .before .before .before .before .before .before .before .before .before .before .before .before .before .before .before .before .before .before .pre .0 .fields .fewZones)
 
 loop3-less : tie.Need-loop3-less Inv-loop μ-loop Inv-loop2 μ-loop2 Inv-loop3 μ-loop3 Inv-search μ-search
 loop3-less c = omega arith
 
 loop3-again : tie.Need-loop3-again Inv-loop μ-loop Inv-loop2 μ-loop2 Inv-loop3 μ-loop3 Inv-search μ-search
 loop3-again c =
-    let l = c .before .before .before .before .loop3 in (
+    let l = c .before .before .before .before .before .before .before .before .loop3 in (
       l .inv .0,
       omega arith,
       l .inv .2,
@@ -294,8 +329,8 @@ search-spec =
     loop-holds
     mul-need-met
     element-copy-out-need-met
-    add-green-of
-    green-of-requires
+    mul-need-met-2
+    element-copy-out-need-met-2
     need-met-requires
     add-t-2
     search-less-2
@@ -308,8 +343,8 @@ search-spec =
     element-copy-out-capacity-met
     mul-capacity-met-2
     element-copy-out-capacity-met-2
-    add-green-of-2
-    green-of-requires-2
+    mul-capacity-met-3
+    element-copy-out-capacity-met-3
     capacity-met-requires
     add-t-3
     search-less-3
@@ -318,9 +353,17 @@ search-spec =
     loop2-less
     loop2-again
     loop3-holds
-    mul-zone-met
-    element-copy-out-zone-met
-    zone-met-requires
+    mul-conflict
+    element-copy-out-conflict
+    cast-a
+    sub-a
+    cast-b
+    sub-b
+    mul-zone-clear
+    element-copy-out-zone-clear
+    mul-zone-clear-2
+    element-copy-out-zone-clear-2
+    zone-clear-requires
     add-t-4
     search-less-4
     search-again-4

@@ -6,17 +6,18 @@ use native.Mathlib.Omega.{arith}
 use Rattle.laws.specs.Search.{firstBelow, first-found, first-next, first-out}
 use Rattle.fields.specs.Verdict.{firstFailing}
 use Rattle.tables.specs.Places.{stream-place}
+use Rattle.plans.specs.WellFormed.{green-place}
 use Rattle.rules.specs.Rules.{needMet}
 use Rattle.rules.proofs.first_short.Statement.{statement}
 use Rattle.rules.proofs.first_short.Tie as tie
 
 abbrev Inv-loop : tie.InvT-loop
-Inv-loop p j streams i₀ i =
+Inv-loop j p streams i₀ i =
     (i ≤ j .held .streams)
     × (firstBelow (λ k. not (needMet j p (k + 1))) (j .held .streams) i ≡ firstFailing (needMet j p) (j .held .streams))
 
 abbrev μ-loop : tie.MeasureT-loop
-μ-loop p j streams i₀ i = j .held .streams - i
+μ-loop j p streams i₀ i = j .held .streams - i
 
 loop-holds : tie.Need-loop-holds Inv-loop μ-loop
 unfolding firstFailing
@@ -28,21 +29,21 @@ mul-need-met c = omega (arith, c .before .before .pre .fields .fewStreams)
 element-copy-out-need-met : tie.Need-element-copy-out-need-met Inv-loop μ-loop
 element-copy-out-need-met c = omega (arith, c .before .before .pre .fields .fewStreams)
 
-add-green-of : tie.Need-add-green-of Inv-loop μ-loop
-add-green-of c = omega arith
+mul-need-met-2 : tie.Need-mul-need-met-2 Inv-loop μ-loop
+mul-need-met-2 c = omega (arith, c .before .before .before .pre .fields .fewStreams)
 
-green-of-requires : tie.Need-green-of-requires Inv-loop μ-loop
-green-of-requires c κs = tt
+element-copy-out-need-met-2 : tie.Need-element-copy-out-need-met-2 Inv-loop μ-loop
+element-copy-out-need-met-2 c = omega (arith, c .before .before .before .pre .fields .fewStreams)
 
 need-met-requires : tie.Need-need-met-requires Inv-loop μ-loop
 need-met-requires c κs = tt
 
-here : (c : tie.After-need-met Inv-loop μ-loop)
-    → c .need-met .result ≡ needMet (c .before .before .before .before .before .args .t1) (c .before .before .before .before .before .args .p) (c .before .before .before .before .loop .i + 1)
+here : (c : tie.After-need-met Inv-loop μ-loop) → c .need-met .result ≡ needMet (c .before .before .before .before .before .args .t1) (c .before .before .before .before .before .args .t2) (c .before .before .before .before .loop .i + 1)
 unfolding needMet
 here c =
-    let s = c .before .before .before .before .before in
-    simp (c .need-met .ensures, c .before .green-of .ensures, stream-place (s .args .t1) (s .pre) (c .before .before .before .before .loop .i) (c .before .before .before .loop-test .taken))
+    let i = c .before .before .before .before .loop .i in
+    let low = c .before .before .before .loop-test .taken in
+    simp (c .need-met .ensures, green-place (c .before .before .before .before .before .args .t2) i (omega (arith, c .before .before .before .before .before .pre .fields .fewStreams)), stream-place (c .before .before .before .before .before .args .t1) (c .before .before .before .before .before .pre) i low)
 
 returns : tie.Need-returns Inv-loop μ-loop
 returns c =
@@ -57,10 +58,8 @@ loop-less c = omega arith
 
 loop-again : tie.Need-loop-again Inv-loop μ-loop
 loop-again c =
-    let l = c .before .before .before .before .before .loop in (
-      omega arith,
-      sym (first-next _ _ (l .i) (c .before .before .before .before .loop-test .taken) (ap not (sym (here (c .before))) ∙ c .if1 .left)) ∙ l .inv .1,
-    )
+    let l = c .before .before .before .before .before .loop in
+    (omega arith, sym (first-next _ _ (l .i) (c .before .before .before .before .loop-test .taken) (ap not (sym (here (c .before))) ∙ c .if1 .left)) ∙ l .inv .1)
 
 returns-2 : tie.Need-returns-2 Inv-loop μ-loop
 returns-2 c = sym (first-out _ _ (c .before .loop .i) (c .loop-test .left)) ∙ c .before .loop .inv .1
@@ -74,8 +73,8 @@ first-short-spec =
     loop-holds
     mul-need-met
     element-copy-out-need-met
-    add-green-of
-    green-of-requires
+    mul-need-met-2
+    element-copy-out-need-met-2
     need-met-requires
     returns
     add-i

@@ -6,17 +6,18 @@ use native.Mathlib.Omega.{arith}
 use Rattle.laws.specs.Search.{firstBelow, first-found, first-next, first-out}
 use Rattle.fields.specs.Verdict.{firstFailing}
 use Rattle.tables.specs.Places.{stream-place, load-place}
+use Rattle.plans.specs.WellFormed.{green-place}
 use Rattle.rules.specs.Rules.{capacityMet}
 use Rattle.rules.proofs.first_unserved.Statement.{statement}
 use Rattle.rules.proofs.first_unserved.Tie as tie
 
 abbrev Inv-loop : tie.InvT-loop
-Inv-loop p j loads streams i₀ i =
+Inv-loop j loads p streams i₀ i =
     (i ≤ j .held .streams)
     × (firstBelow (λ k. not (capacityMet j p (k + 1))) (j .held .streams) i ≡ firstFailing (capacityMet j p) (j .held .streams))
 
 abbrev μ-loop : tie.MeasureT-loop
-μ-loop p j loads streams i₀ i = j .held .streams - i
+μ-loop j loads p streams i₀ i = j .held .streams - i
 
 loop-holds : tie.Need-loop-holds Inv-loop μ-loop
 unfolding firstFailing
@@ -34,23 +35,21 @@ mul-capacity-met-2 c = omega (arith, c .before .before .before .pre .0 .fields .
 element-copy-out-capacity-met-2 : tie.Need-element-copy-out-capacity-met-2 Inv-loop μ-loop
 element-copy-out-capacity-met-2 c = omega (arith, c .before .before .before .pre .0 .fields .fewStreams)
 
-add-green-of : tie.Need-add-green-of Inv-loop μ-loop
-add-green-of c = omega arith
+mul-capacity-met-3 : tie.Need-mul-capacity-met-3 Inv-loop μ-loop
+mul-capacity-met-3 c = omega (arith, c .before .before .before .before .pre .0 .fields .fewStreams)
 
-green-of-requires : tie.Need-green-of-requires Inv-loop μ-loop
-green-of-requires c κs = tt
+element-copy-out-capacity-met-3 : tie.Need-element-copy-out-capacity-met-3 Inv-loop μ-loop
+element-copy-out-capacity-met-3 c = omega (arith, c .before .before .before .before .pre .0 .fields .fewStreams)
 
 capacity-met-requires : tie.Need-capacity-met-requires Inv-loop μ-loop
 capacity-met-requires c κs = tt
 
-here : (c : tie.After-capacity-met Inv-loop μ-loop)
-    → c .capacity-met .result ≡ capacityMet (c .before .before .before .before .before .before .args .t1) (c .before .before .before .before .before .before .args .p) (c .before .before .before .before .before .loop .i + 1)
+here : (c : tie.After-capacity-met Inv-loop μ-loop) → c .capacity-met .result ≡ capacityMet (c .before .before .before .before .before .before .args .t1) (c .before .before .before .before .before .before .args .t3) (c .before .before .before .before .before .loop .i + 1)
 unfolding capacityMet
 here c =
-    let s = c .before .before .before .before .before .before in
     let i = c .before .before .before .before .before .loop .i in
     let low = c .before .before .before .before .loop-test .taken in
-    simp (c .capacity-met .ensures, c .before .green-of .ensures, s .pre .1, stream-place (s .args .t1) (s .pre .0) i low, load-place (s .args .t1) (s .pre .0) i low)
+    simp (c .capacity-met .ensures, green-place (c .before .before .before .before .before .before .args .t3) i (omega (arith, c .before .before .before .before .before .before .pre .0 .fields .fewStreams)), c .before .before .before .before .before .before .pre .1, stream-place (c .before .before .before .before .before .before .args .t1) (c .before .before .before .before .before .before .pre .0) i low, load-place (c .before .before .before .before .before .before .args .t1) (c .before .before .before .before .before .before .pre .0) i low)
 
 returns : tie.Need-returns Inv-loop μ-loop
 returns c =
@@ -65,10 +64,8 @@ loop-less c = omega arith
 
 loop-again : tie.Need-loop-again Inv-loop μ-loop
 loop-again c =
-    let l = c .before .before .before .before .before .before .loop in (
-      omega arith,
-      sym (first-next _ _ (l .i) (c .before .before .before .before .before .loop-test .taken) (ap not (sym (here (c .before))) ∙ c .if1 .left)) ∙ l .inv .1,
-    )
+    let l = c .before .before .before .before .before .before .loop in
+    (omega arith, sym (first-next _ _ (l .i) (c .before .before .before .before .before .loop-test .taken) (ap not (sym (here (c .before))) ∙ c .if1 .left)) ∙ l .inv .1)
 
 returns-2 : tie.Need-returns-2 Inv-loop μ-loop
 returns-2 c = sym (first-out _ _ (c .before .loop .i) (c .loop-test .left)) ∙ c .before .loop .inv .1
@@ -84,8 +81,8 @@ first-unserved-spec =
     element-copy-out-capacity-met
     mul-capacity-met-2
     element-copy-out-capacity-met-2
-    add-green-of
-    green-of-requires
+    mul-capacity-met-3
+    element-copy-out-capacity-met-3
     capacity-met-requires
     returns
     add-i

@@ -4,7 +4,6 @@ use borrow.Author.Tests.{le-leb, lt-leb}
 use native.Mathlib.Omega.{arith}
 use Rattle.fields.specs.Verdict.{askEach}
 use Rattle.rules.specs.Rules.{rulesVerdict}
-use Rattle.rules.specs.Tabled.{zones-tabled}
 use Rattle.rules.proofs.verdict.Statement.{statement}
 use Rattle.rules.proofs.verdict.Tie as tie
 
@@ -12,7 +11,7 @@ first-short-requires : tie.Need-first-short-requires
 first-short-requires c κs = search needs
 
 broken-requires : tie.Need-broken-requires
-broken-requires c κs = let s = c .before .before in omega (arith, s .pre .fields .fewStreams)
+broken-requires c κs = omega (arith, c .before .before .pre .fields .fewStreams)
 
 returns : tie.Need-returns
 unfolding rulesVerdict askEach
@@ -29,24 +28,32 @@ broken-requires-2 c κs = omega (arith, c .before .before .before .before .befor
 
 returns-2 : tie.Need-returns-2
 unfolding rulesVerdict askEach
-returns-2 c = let d = c .before .before .before .before .before .first-short .ensures in let e = c .before .before .first-unserved .ensures in simp (le-leb _ _ (rw d at (c .before .before .before .before .if1 .left)), c .broken2 .ensures, e, lt-leb _ _ (rw e at (c .before .if2 .taken)))
-
-conflicts-of-requires : tie.Need-conflicts-of-requires
-conflicts-of-requires c κs = search needs
+returns-2 c =
+    let d = c .before .before .before .before .before .first-short .ensures in
+    let e = c .before .before .first-unserved .ensures in
+    simp (le-leb _ _ (rw d at (c .before .before .before .before .if1 .left)), c .broken2 .ensures, e, lt-leb _ _ (rw e at (c .before .if2 .taken)))
 
 first-unclear-requires : tie.Need-first-unclear-requires
-first-unclear-requires c κs = c .before .before .before .before .before .before .pre .fields .fewZones
+first-unclear-requires c κs = search needs
 
 broken-requires-3 : tie.Need-broken-requires-3
-broken-requires-3 c κs = omega (arith, c .before .before .before .before .before .before .before .before .pre .fields .fewZones)
+broken-requires-3 c κs = omega (arith, c .before .before .before .before .before .before .before .pre .fields .fewZones)
 
 returns-3 : tie.Need-returns-3
 unfolding rulesVerdict askEach
-returns-3 c = let s = c .before .before .before .before .before .before .before .before .before in let d = c .before .before .before .before .before .before .before .before .first-short .ensures in let e = c .before .before .before .before .before .first-unserved .ensures in let f = rw (c .before .before .before .conflicts-of .ensures, zones-tabled (s .args .j) (s .pre) (s .args .p)) at (c .before .before .first-unclear .ensures) in simp (le-leb _ _ (rw d at (c .before .before .before .before .before .before .before .if1 .left)), le-leb _ _ (rw e at (c .before .before .before .before .if2 .left)), c .broken3 .ensures, f, lt-leb _ _ (rw f at (c .before .if3 .taken)))
+returns-3 c =
+    let d = c .before .before .before .before .before .before .before .first-short .ensures in
+    let e = c .before .before .before .before .first-unserved .ensures in
+    let f = c .before .before .first-unclear .ensures in
+    simp (le-leb _ _ (rw d at (c .before .before .before .before .before .before .if1 .left)), le-leb _ _ (rw e at (c .before .before .before .if2 .left)), c .broken3 .ensures, f, lt-leb _ _ (rw f at (c .before .if3 .taken)))
 
 returns-4 : tie.Need-returns-4
 unfolding rulesVerdict askEach
-returns-4 c = let s = c .before .before .before .before .before .before .before .before in let d = c .before .before .before .before .before .before .before .first-short .ensures in let e = c .before .before .before .before .first-unserved .ensures in let f = rw (c .before .before .conflicts-of .ensures, zones-tabled (s .args .j) (s .pre) (s .args .p)) at (c .before .first-unclear .ensures) in simp (le-leb _ _ (rw d at (c .before .before .before .before .before .before .if1 .left)), le-leb _ _ (rw e at (c .before .before .before .if2 .left)), le-leb _ _ (rw f at (c .if3 .left)))
+returns-4 c =
+    let d = c .before .before .before .before .before .before .first-short .ensures in
+    let e = c .before .before .before .first-unserved .ensures in
+    let f = c .before .first-unclear .ensures in
+    simp (le-leb _ _ (rw d at (c .before .before .before .before .before .if1 .left)), le-leb _ _ (rw e at (c .before .before .if2 .left)), le-leb _ _ (rw f at (c .if3 .left)))
 
 pub verdict-spec : {M : Type 1} → statement M
 verdict-spec =
@@ -59,7 +66,6 @@ verdict-spec =
     first-unserved-requires
     broken-requires-2
     returns-2
-    conflicts-of-requires
     first-unclear-requires
     broken-requires-3
     returns-3

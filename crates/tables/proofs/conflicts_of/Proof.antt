@@ -1,30 +1,26 @@
 -- `tables::conflicts_of` meets its contract: the outer invariant is that the first i places hold the conflicts of the first i zones, the inner
--- one that the two entries so far are the largest of the zones passed.
-use Prim.Native.Nat.{_-_, _≤_, zero-le}
+-- one that the conflict so far is that of the zones passed.
+use Prim.Native.Nat.{_-_, _≤_}
 use mathlib.Core.Logic.{⊎-elim}
-use mathlib.Core.Path.{_≡_, sym, _∙_}
-use native.Mathlib.Nat.{le-antisymm, max-eq-left}
+use mathlib.Core.Path.{_≡_, sym, _∙_, ap}
+use native.Mathlib.Nat.{le-antisymm}
 use native.Mathlib.Omega.{arith}
 use borrow.Author.Needs.{needs}
-use lib.ListN.{replicate}
+use lib.ListN.{getD, replicate}
 use Rattle.laws.specs.Filled.{filled, filled-none, filled-next}
-use Rattle.laws.specs.Largest.{largestOf, largest-none, largest-next}
+use Rattle.questions.specs.Blank.{noZone}
 use Rattle.questions.specs.Questions.{zoneAt}
-use Rattle.junction_figures.specs.Figures.{zoneEntry, pairEntry}
-use Rattle.tables.specs.Pairs.{ahead-same, behind-same, ahead-other, behind-other}
-use Rattle.tables.specs.Places.{number-place, zone-place, zone-right}
-use Rattle.tables.specs.Tables.{noConflict, conflictOf, conflictsOf}
+use Rattle.tables.specs.Pairs.{pair-opened, pair-widened, pair-passed, pair-whole}
+use Rattle.tables.specs.Places.{zone-place, zone-right}
+use Rattle.tables.specs.Tables.{noConflict, conflictBy, conflictOf, conflictsOf}
 use Rattle.tables.proofs.conflicts_of.Statement.{statement}
 use Rattle.tables.proofs.conflicts_of.Tie as tie
 
 abbrev Inv-loop2 : tie.InvT-loop2
-Inv-loop2 j zones all i z first second ahead₀ behind₀ k₀ ahead behind k =
-    (k ≤ j .held .zones)
-    × (ahead ≡ largestOf (λ n. zoneEntry j (z .a .stream) (z .b .stream) (zoneAt j n)) k)
-    × (behind ≡ largestOf (λ n. zoneEntry j (z .b .stream) (z .a .stream) (zoneAt j n)) k)
+Inv-loop2 j zones all i z first second c₀ k₀ c k = (k ≤ j .held .zones) × (c ≡ conflictBy j z k)
 
 abbrev μ-loop2 : tie.MeasureT-loop2
-μ-loop2 j zones all i z first second ahead₀ behind₀ k₀ ahead behind k = j .held .zones - k
+μ-loop2 j zones all i z first second c₀ k₀ c k = j .held .zones - k
 
 abbrev Inv-loop : tie.InvT-loop
 Inv-loop j zones all₀ i₀ all i =
@@ -69,32 +65,26 @@ mul-second c = omega (arith, c .before .before .before .before .before .before .
 element-copy-out-second : tie.Need-element-copy-out-second Inv-loop2 μ-loop2 Inv-loop μ-loop
 element-copy-out-second c = omega (arith, c .before .before .before .before .before .before .before .pre .fields .fewStreams, zone-right (c .before .before .before .before .before .before .before .args .t1) (c .before .before .before .before .before .before .before .pre) (c .before .before .before .before .before .loop .i) (c .before .before .before .before .loop-test .taken) .b .existing)
 
+opened-requires : tie.Need-opened-requires Inv-loop2 μ-loop2 Inv-loop μ-loop
+opened-requires c κs = tt
+
 loop2-holds : tie.Need-loop2-holds Inv-loop2 μ-loop2 Inv-loop μ-loop
-loop2-holds c = (omega arith, sym (largest-none _), sym (largest-none _))
+loop2-holds c = (omega arith, c .opened .ensures ∙ pair-opened (c .before .before .before .before .before .before .before .before .before .args .t1) (getD (c .before .before .before .before .before .before .before .before .before .args .t1 .zones) (c .before .before .before .before .before .before .before .loop .i) noZone))
 
 mul-y : tie.Need-mul-y Inv-loop2 μ-loop2 Inv-loop μ-loop
-mul-y c = omega (arith, c .before .before .before .before .before .before .before .before .before .before .pre .fields .fewZones)
+mul-y c = omega (arith, c .before .before .before .before .before .before .before .before .before .before .before .pre .fields .fewZones)
 
 element-copy-out-y : tie.Need-element-copy-out-y Inv-loop2 μ-loop2 Inv-loop μ-loop
-element-copy-out-y c = omega (arith, c .before .before .before .before .before .before .before .before .before .before .pre .fields .fewZones)
+element-copy-out-y c = omega (arith, c .before .before .before .before .before .before .before .before .before .before .before .pre .fields .fewZones)
 
 same-pair-requires : tie.Need-same-pair-requires Inv-loop2 μ-loop2 Inv-loop μ-loop
 same-pair-requires c κs = tt
 
-entry-requires : tie.Need-entry-requires Inv-loop2 μ-loop2 Inv-loop μ-loop
-entry-requires c κs = tt
-
-larger-requires : tie.Need-larger-requires Inv-loop2 μ-loop2 Inv-loop μ-loop
-larger-requires c κs = tt
-
-entry-requires-2 : tie.Need-entry-requires-2 Inv-loop2 μ-loop2 Inv-loop μ-loop
-entry-requires-2 c κs = tt
-
-larger-requires-2 : tie.Need-larger-requires-2 Inv-loop2 μ-loop2 Inv-loop μ-loop
-larger-requires-2 c κs = tt
+widened-requires : tie.Need-widened-requires Inv-loop2 μ-loop2 Inv-loop μ-loop
+widened-requires c κs = tt
 
 add-k : tie.Need-add-k Inv-loop2 μ-loop2 Inv-loop μ-loop
-add-k c = omega (arith, c .before .before .before .loop2-test .taken, c .before .before .before .before .before .before .before .before .before .before .before .before .before .pre .fields .fewZones)
+add-k c = omega (arith, c .before .before .before .loop2-test .taken, c .before .before .before .before .before .before .before .before .before .before .before .before .before .before .pre .fields .fewZones)
 
 loop2-less : tie.Need-loop2-less Inv-loop2 μ-loop2 Inv-loop μ-loop
 loop2-less c = omega (arith, c .before .before .before .loop2-test .taken)
@@ -102,49 +92,38 @@ loop2-less c = omega (arith, c .before .before .before .loop2-test .taken)
 loop2-again : tie.Need-loop2-again Inv-loop2 μ-loop2 Inv-loop μ-loop
 loop2-again c =
     let l = c .before .before .before .before .loop2 in
-    let s = c .before .before .before .before .before .before .before .before .before .before .before .before .before in
-    let j = s .args .t1 in
-    let t = s .pre in
+    let j = c .before .before .before .before .before .before .before .before .before .before .before .before .before .before .args .t1 in
+    let taken = c .before .before .before .before .before .before .before .before .before .before .before .before .before .before .pre in
+    let right = zone-right (c .before .before .before .before .before .before .before .before .before .before .before .before .before .before .args .t1) (c .before .before .before .before .before .before .before .before .before .before .before .before .before .before .pre) (c .before .before .before .before .before .before .before .before .before .before .before .before .loop .i) (c .before .before .before .before .before .before .before .before .before .before .before .loop-test .taken) in
     let low = c .before .before .before .loop2-test .taken in
-    let at = c .before .before .before .before .before .before .before .before .before .before .before .loop .i in
-    let here = c .before .before .before .before .before .before .before .before .before .before .loop-test .taken in
-    let yRight = zone-right j t (l .k) low in
-    let zRight = zone-right j t at here in
-    let same = sym (c .before .same-pair .ensures) in
-    let there = sym (zone-place j t (l .k) low) in
-    let first = number-place j t _ (zRight .a .existing) in
-    let second = number-place j t _ (zRight .b .existing) in (
+    let same = sym (c .before .same-pair .ensures) in (
       omega arith,
       ⊎-elim
-          (λ w. simp (w .5, w .2 .ensures, w .1 .ensures, first, second, l .inv .1, largest-next, there, ahead-same j _ _ yRight zRight (same ∙ w .0 .taken)))
-          (λ w. simp (w .1, l .inv .1, largest-next, there, ahead-other j _ _ yRight zRight (same ∙ w .0 .left)) (sym (max-eq-left zero-le)))
-          (c .if1 .came),
-      ⊎-elim
-          (λ w. simp (w .6, w .4 .ensures, w .3 .ensures, first, second, l .inv .2, largest-next, there, behind-same j _ _ yRight zRight (same ∙ w .0 .taken)))
-          (λ w. simp (w .2, l .inv .2, largest-next, there, behind-other j _ _ yRight zRight (same ∙ w .0 .left)) (sym (max-eq-left zero-le)))
+          (λ w. w .2 ∙ w .1 .ensures ∙ rw (l .inv .1) (pair-widened j _ taken right (l .k) low (same ∙ w .0 .taken)))
+          (λ w. w .1 ∙ l .inv .1 ∙ pair-passed j _ taken right (l .k) low (same ∙ w .0 .left))
           (c .if1 .came),
     )
 
-mul-t16 : tie.Need-mul-t16 Inv-loop2 μ-loop2 Inv-loop μ-loop
-mul-t16 c = omega (arith, c .before .before .before .before .before .before .before .before .before .before .pre .fields .fewZones)
+mul-c : tie.Need-mul-c Inv-loop2 μ-loop2 Inv-loop μ-loop
+mul-c c = omega (arith, c .before .before .before .before .before .before .before .before .before .before .before .pre .fields .fewZones)
 
-element-set-from-all : tie.Need-element-set-from-all Inv-loop2 μ-loop2 Inv-loop μ-loop
-element-set-from-all c = omega (arith, c .before .before .before .before .before .before .before .before .before .before .pre .fields .fewZones)
+element-set-from-c : tie.Need-element-set-from-c Inv-loop2 μ-loop2 Inv-loop μ-loop
+element-set-from-c c = omega (arith, c .before .before .before .before .before .before .before .before .before .before .before .pre .fields .fewZones)
 
 add-i : tie.Need-add-i Inv-loop2 μ-loop2 Inv-loop μ-loop
-add-i c = omega (arith, c .before .before .before .before .before .before .before .loop-test .taken, c .before .before .before .before .before .before .before .before .before .before .pre .fields .fewZones)
+add-i c = omega (arith, c .before .before .before .before .before .before .before .before .loop-test .taken, c .before .before .before .before .before .before .before .before .before .before .before .pre .fields .fewZones)
 
 loop-less : tie.Need-loop-less Inv-loop2 μ-loop2 Inv-loop μ-loop
-loop-less c = omega (arith, c .before .before .before .before .before .before .before .loop-test .taken)
+loop-less c = omega (arith, c .before .before .before .before .before .before .before .before .loop-test .taken)
 
 loop-again : tie.Need-loop-again Inv-loop2 μ-loop2 Inv-loop μ-loop
-unfolding pairEntry
 loop-again c =
-    let l = c .before .before .before .before .before .before .before .before .loop in
-    let s = c .before .before .before .before .before .before .before .before .before .before in
+    let l = c .before .before .before .before .before .before .before .before .before .loop in
     let m = c .before .loop2 in
-    let all = le-antisymm (m .inv .0) (c .loop2-test .left) in
-    (omega arith, simp (m .inv .1, m .inv .2, all, zone-place (s .args .t1) (s .pre) (l .i) (c .before .before .before .before .before .before .before .loop-test .taken), l .inv .1, filled-next))
+    let j = c .before .before .before .before .before .before .before .before .before .before .before .args .t1 in
+    let z = getD (j .zones) (l .i) noZone in
+    let whole : m .c ≡ conflictOf j z = m .inv .1 ∙ ap (conflictBy j z) (le-antisymm (m .inv .0) (c .loop2-test .left)) ∙ pair-whole j z in
+    (omega arith, simp (whole, zone-place j (c .before .before .before .before .before .before .before .before .before .before .before .pre) (l .i) (c .before .before .before .before .before .before .before .before .loop-test .taken), l .inv .1, filled-next))
 
 returns : tie.Need-returns Inv-loop2 μ-loop2 Inv-loop μ-loop
 unfolding conflictsOf
@@ -172,19 +151,17 @@ conflicts-of-spec =
     sub-second
     mul-second
     element-copy-out-second
+    opened-requires
     loop2-holds
     mul-y
     element-copy-out-y
     same-pair-requires
-    entry-requires
-    larger-requires
-    entry-requires-2
-    larger-requires-2
+    widened-requires
     add-k
     loop2-less
     loop2-again
-    mul-t16
-    element-set-from-all
+    mul-c
+    element-set-from-c
     add-i
     loop-less
     loop-again
