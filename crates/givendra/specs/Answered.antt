@@ -2,11 +2,10 @@
 -- something is refused.
 use Prim.Native.Nat.{ℕ}
 use native.Mathlib.Omega.{arith}
-use mathlib.Core.Bool.{Bool, true, _&&_}
+use mathlib.Core.Bool.{Bool, true}
 use mathlib.Core.List.{List}
 use mathlib.Core.Logic.{_↔_}
 use mathlib.Core.Path.{_≡_, refl}
-use lib.Dec.{leb}
 use Rattle.fields.specs.Numbers.{Numbered, ask-numbered, first-numbered, numbered-more, passed-number}
 use Rattle.fields.specs.Verdict.{isRefused, ask, ask-passed, firstRefusal, both-passed}
 use Rattle.fields.specs.declared.Verdict.{Verdict}
@@ -14,6 +13,7 @@ use Rattle.fields.specs.declared.Verdict.the-variants.{Passed}
 use Rattle.questions.specs.Questions.{exists, countRefers}
 use Rattle.reading.specs.Numbers.{reading-numbered}
 use Rattle.reading.specs.Reading.{reading}
+use Rattle.plans.specs.Plans.{cycleInRange}
 use Rattle.judging.specs.Judgement.{judgement}
 use Rattle.judging.specs.Numbers.{number-accepted}
 use Rattle.junction_figures.specs.Figures.{pairEntry, streamNeed, streamSaturation, streamRatio}
@@ -64,20 +64,20 @@ module _ (junction : List ℕ) where
         λ h. told .1 (both .1 (h .0, first .1 (h .1, last .1 (h .2, refl)))),
       )
 
-  -- a need, exactly where the file is taken, the stream exists and the cycle is from 1 to 180
+  -- a need, exactly where the file is taken, the stream exists and the cycle is in range
   pub need-told : (n cycle : ℕ)
       → (needAnswer junction n cycle .refusal ≡ 0)
-      ↔ ((reading junction .verdict ≡ Passed) × (exists (reading junction .junction) n ≡ true) × ((leb 1 cycle && leb cycle 180) ≡ true))
+      ↔ ((reading junction .verdict ≡ Passed) × (exists (reading junction .junction) n ≡ true) × ((cycleInRange cycle) ≡ true))
   unfolding needAnswer needVerdict
   need-told n cycle =
       let j = reading junction .junction in
-      let second = ask (leb 1 cycle && leb cycle 180) 13 0 Passed in
+      let second = ask (cycleInRange cycle) 13 0 Passed in
       let own = ask (exists j n) 7 n second in
       let told = figure-number (firstRefusal (reading junction .verdict) own) (streamNeed j n cycle)
-      (own-numbered junction own (ask-numbered 13 (exists j n) 7 n second (omega arith) (ask-numbered 13 (leb 1 cycle && leb cycle 180) 13 0 Passed (omega arith) tt))) in
+      (own-numbered junction own (ask-numbered 13 (exists j n) 7 n second (omega arith) (ask-numbered 13 (cycleInRange cycle) 13 0 Passed (omega arith) tt))) in
       let both = both-passed (reading junction .verdict) own in
       let first = asked (exists j n) 7 n second in
-      let last = asked (leb 1 cycle && leb cycle 180) 13 0 Passed in (
+      let last = asked (cycleInRange cycle) 13 0 Passed in (
         λ e. let b = both .0 (told .0 e) in let f = first .0 (b .1) in (b .0, f .0, last .0 (f .1) .0),
         λ h. told .1 (both .1 (h .0, first .1 (h .1, last .1 (h .2, refl)))),
       )

@@ -1,8 +1,7 @@
 -- The answers to programs in other languages: the paper's number and place of the verdict, and the figures, 0 where something is refused.
 use Prim.Native.Nat.{ℕ}
-use mathlib.Core.Bool.{_&&_, cond}
+use mathlib.Core.Bool.{cond}
 use mathlib.Core.List.{List}
-use lib.Dec.{leb}
 use Rattle.fields.specs.Verdict.{numberOf, placeOf, isRefused, ask, firstRefusal}
 use Rattle.fields.specs.declared.Verdict.{Verdict}
 use Rattle.fields.specs.declared.Verdict.the-variants.{Passed}
@@ -10,6 +9,7 @@ use Rattle.junction.specs.declared.Junction.{Junction}
 use Rattle.questions.specs.Questions.{exists, countRefers}
 use Rattle.reading.specs.Reading.{reading}
 use Rattle.junction_figures.specs.Figures.{pairEntry, streamNeed, streamSaturation, streamRatio}
+use Rattle.plans.specs.Plans.{cycleInRange}
 use Rattle.judging.specs.Judgement.{judgement}
 use Rattle.working_out.specs.WorkingOut.{worked}
 use Rattle.givendra.specs.declared.JudgeAnswer.{JudgeAnswer}
@@ -55,9 +55,9 @@ figure v x = record { place = placeOf v; refusal = numberOf v; value = unlessRef
 unfoldable pub intergreenVerdict : Junction → ℕ → ℕ → Verdict
 intergreenVerdict j from to = ask (exists j from) 7 from (ask (exists j to) 7 to Passed)
 
--- 7, then 13, place 0: is the cycle from 1 to 180?
+-- 7, then 13, place 0: is the cycle in range?
 unfoldable pub needVerdict : Junction → ℕ → ℕ → Verdict
-needVerdict j n cycle = ask (exists j n) 7 n (ask (leb 1 cycle && leb cycle 180) 13 0 Passed)
+needVerdict j n cycle = ask (exists j n) 7 n (ask (cycleInRange cycle) 13 0 Passed)
 
 -- 7: is it an existing car?
 unfoldable pub carVerdict : Junction → ℕ → Verdict

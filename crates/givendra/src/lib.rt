@@ -172,7 +172,7 @@ pub extern "C" fn givendra_need(junction: &[u8], stream: usize, cycle: u16) -> F
 fn need_verdict(j: Junction, stream: usize, cycle: u16) -> Verdict
     ensures { λ r. ⌜ r ≡ needVerdict j stream cycle ⌝ }
 {
-    let second = ask((1 <= cycle) & (cycle <= 180), 13, 0, Verdict::Passed);
+    let second = ask(plans::cycle_in_range(cycle), 13, 0, Verdict::Passed);
     ask(questions::exists(j, stream), 7, stream, second)
 }
 

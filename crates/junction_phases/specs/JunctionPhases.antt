@@ -13,8 +13,15 @@ use Rattle.junction_figures.specs.Figures.{pairEntry, streamNeed, streamRatio}
 use Rattle.phases.specs.Phases.{noPhase}
 use Rattle.phases.specs.declared.Phases.{Phases}
 use Rattle.phases.specs.declared.Phase.{Phase}
-use Rattle.junction_phases.specs.declared.Sought.{Sought}
-use Rattle.junction_phases.specs.declared.Sought.the-variants.{Number, Slow, Cars, Ratio, Need}
+
+-- a figure of each stream whose largest is sought: the number of its phase; 1 for a pedestrian or a tram; of the cars of a phase, 1 for each,
+-- or their flow ratio; of the streams of a phase, the needed green at a cycle
+pub data Sought : Type 0 where
+  Number : Sought
+  Slow : Sought
+  Cars : ℕ → Sought
+  Ratio : ℕ → Sought
+  Need : ℕ → ℕ → Sought
 
 -- pedestrians and trams
 abbrev pub isSlow : Kind → Bool
@@ -49,9 +56,12 @@ phaseCount j = min (largest j Number) 6
 unfoldable pub slow : Junction → Bool
 slow j = leb 1 (largest j Slow)
 
--- the first follows the last
+-- the first of so many follows the last
+abbrev pub phaseAfter : ℕ → ℕ → ℕ
+phaseAfter count f = cond (ltb f count) (f + 1) 1
+
 unfoldable pub nextPhase : Junction → ℕ → ℕ
-nextPhase j f = cond (ltb f (phaseCount j)) (f + 1) 1
+nextPhase j f = phaseAfter (phaseCount j) f
 
 -- M of a phase: the largest entry from its streams to those of the next, at least 1 (house). A pair without a zone has entry 0, so the
 -- zones' pairs are all

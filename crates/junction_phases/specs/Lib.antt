@@ -1,6 +1,7 @@
+pub mod ByPhase
 pub mod JunctionPhases
+pub mod Made
 pub mod Meaning
-pub mod Needs
 pub mod Placed
 pub mod Right
 pub mod Tabled

@@ -14,9 +14,7 @@ use Rattle.junction.specs.declared.Junction.{Junction}
 use Rattle.questions.specs.Questions.{streamNumbered, numbered-at, zoneAt, zoneNumbered, zone-numbered-at}
 use Rattle.reading.specs.Taken.{UsedPhase, Taken}
 use Rattle.junction_figures.specs.Figures.{forward, backward, zoneEntry, pairEntry, pair-least, streamNeed, streamRatio}
-use Rattle.junction_phases.specs.JunctionPhases.{isIn, carIn, figure, largest, phaseCount, entryBetween, zoneFigure, phaseEntry}
-use Rattle.junction_phases.specs.declared.Sought.{Sought}
-use Rattle.junction_phases.specs.declared.Sought.the-variants.{Number, Cars, Ratio, Need}
+use Rattle.junction_phases.specs.JunctionPhases.{Sought, Number, Cars, Ratio, Need, isIn, carIn, figure, largest, phaseCount, entryBetween, zoneFigure, phaseEntry}
 
 -- a number that counts only where a test passes
 only-at-most : (b : Bool) (v x : ℕ) → (cond b v 0 ≤ x) ↔ (b ≡ true → v ≤ x)

@@ -6,12 +6,12 @@ use mathlib.Core.Path.{_≡_}
 use lib.Dec.{ltb}
 use lib.ListN.{replicate, getD-replicate}
 use borrow.Author.Tests.{lt-ltb, ltb-true}
-use Rattle.laws.specs.Filled.{filled-at, filled-past}
+use Rattle.laws.specs.Filled.{filled, filled-at, filled-past, filled-same}
 use Rattle.laws.specs.Tests.{by-test}
 use Rattle.junction.specs.declared.Junction.{Junction}
 use Rattle.phases.specs.Phases.{noPhase, phase}
-use Rattle.junction_phases.specs.JunctionPhases.{largest, phaseCount, phaseAt, phasesAt, withNeed}
-use Rattle.junction_phases.specs.declared.Sought.the-variants.{Need}
+use Rattle.phases.specs.declared.Phase.{Phase}
+use Rattle.junction_phases.specs.JunctionPhases.{Need, largest, phaseCount, phaseAt, phasesAt, withNeed}
 
 module _ (j : Junction) where
   pub few-phases : phaseCount j ≤ 6
@@ -29,6 +29,12 @@ module _ (j : Junction) where
       by-test (ltb i 6)
       (λ e. rw (e, filled-past (phaseAt j t) (replicate 6 noPhase) (phaseCount j) i noPhase past) (getD-replicate 6 i noPhase noPhase (ltb-true _ _ e)))
       (λ e. rw e)
+
+  -- places filled one after the other with the phases
+  pub phases-filled : (t : ℕ) (p : ℕ → Phase) → ((k : ℕ) → k < phaseCount j → p k ≡ phaseAt j t k)
+      → record { count = phaseCount j; of = filled p (replicate 6 noPhase) (phaseCount j) } ≡ phasesAt j t
+  unfolding phasesAt
+  phases-filled t p same = rw (filled-same p (replicate 6 noPhase) (phaseAt j t) (phaseCount j) same)
 
   -- a phase's need alone depends on the cycle
   pub need-moved : (t i : ℕ) → i < phaseCount j → withNeed (phase (phasesAt j 0) i) (largest j (Need (i + 1) t)) ≡ phaseAt j t i

@@ -19,8 +19,7 @@ use Rattle.junction_figures.specs.Figures.{streamFlow, streamRatio}
 use Rattle.junction_figures.specs.Positive.{stream-ratio-least}
 use Rattle.phases.specs.Fills.{Right}
 use Rattle.phases.specs.Phases.{phase, term, sum, ratioSum}
-use Rattle.junction_phases.specs.JunctionPhases.{isIn, carIn, largest, phaseCount, intergreen, phaseAt, phasesAt}
-use Rattle.junction_phases.specs.declared.Sought.the-variants.{Cars, Ratio}
+use Rattle.junction_phases.specs.JunctionPhases.{Cars, Ratio, isIn, carIn, largest, phaseCount, intergreen, phaseAt, phasesAt}
 use Rattle.junction_phases.specs.Meaning.{ratio-largest, cars-largest, count-phases}
 use Rattle.junction_phases.specs.Placed.{few-phases, phase-placed, phase-empty}
 
@@ -33,7 +32,7 @@ car-figures (Cyclist y) e = absurd (false≢true e)
 
 module _ (j : Junction) where
   -- a phase without cars has y 0
-  no-cars : (f : ℕ) → leb 1 (largest j (Cars f)) ≡ false → largest j (Ratio f) ≡ 0
+  pub no-cars : (f : ℕ) → leb 1 (largest j (Cars f)) ≡ false → largest j (Ratio f) ≡ 0
   no-cars f e =
       let none = cars-largest j f 0 .0 (omega (arith, leb-false 1 (largest j (Cars f)) e)) in
       le-antisymm (ratio-largest j f 0 .1 (λ n r car. absurd (omega (arith, none n r car)))) zero-le
@@ -51,7 +50,7 @@ module _ (j : Junction) where
 
   module _ (t : Taken j) where
     -- y of a car is at least 1, its flow being so
-    ratio-some : (i : ℕ) → i < j .held .streams → isCar (streamAt j i .kind) ≡ true → 1 ≤ streamRatio j (i + 1)
+    pub ratio-some : (i : ℕ) → i < j .held .streams → isCar (streamAt j i .kind) ≡ true → 1 ≤ streamRatio j (i + 1)
     unfolding streamFlow
     ratio-some i low e =
         let c = car-figures (streamAt j i .kind) e in

@@ -1,45 +1,36 @@
 // The phases of a junction that was read: their flow ratios, intergreens toward the next phase and needed greens (document 01, "Working out
 // a plan"). Phases and streams are named by their numbers, from 1.
-ghost use mathlib.Core.Bool.{_&&_, cond};
+ghost use mathlib.Core.Bool.{cond};
 ghost use mathlib.Core.Path.{_≡_};
-ghost use Prim.Native.Nat.{ℕ, _+_, _≤_, _<_, max, min};
-ghost use lib.Dec.{ltb, eqb};
+ghost use Prim.Native.Nat.{_≤_, max, min};
 ghost use lib.ListN.{getD};
 ghost use Rattle.laws.specs.Largest.{largestOf};
-ghost use Rattle.laws.specs.Ranges.{Between};
-ghost use Rattle.flows.specs.Needs.{needAt};
 ghost use Rattle.questions.specs.Blank.{noStream};
-ghost use Rattle.questions.specs.Questions.{isCar};
 ghost use Rattle.reading.specs.Taken.{Taken};
-ghost use Rattle.tables.specs.Tables.{loadsOf, conflictsOf};
-ghost use Rattle.junction_phases.specs.JunctionPhases.{isSlow, phaseCount, slow as slowIn, phaseEntry, intergreen as intergreenOf, phaseAt, phasesAt, withNeed};
-ghost use Rattle.junction_phases.specs.Needs.{needBy};
-ghost use Rattle.junction_phases.specs.Tabled.{figureBy, largestBy, zoneFigureBy};
+ghost use Rattle.tables.specs.Tables.{conflictsOf, loadsOf};
+ghost use Rattle.junction_phases.specs.ByPhase.{ByPhase};
+ghost use Rattle.junction_phases.specs.JunctionPhases.{isSlow, slow as slowIn, phaseAfter, phasesAt, withNeed};
+ghost use Rattle.junction_phases.specs.Made.{phaseWith};
+ghost use Rattle.junction_phases.specs.Tabled.{needsBy, ratiosBy, entriesBy, onward as onwardBy, StreamPhases, ZonesPhases};
 use junction::Junction;
 use phases::Phase;
 use phases::Phases;
 use streams::Kind;
 use streams::Stream;
-use tables::Conflict;
 use tables::Conflicts;
-use tables::Load;
 use tables::Loads;
-
-// A figure of each stream whose largest is sought: the number of its phase; 1 for a pedestrian or a tram; of the cars of a phase, 1 for
-// each, or their flow ratio; of the streams of a phase, the needed green at a cycle.
-pub enum Sought {
-    Number,
-    Slow,
-    Cars { phase: u8 },
-    Ratio { phase: u8 },
-    Need { phase: u8, cycle: u16 },
-}
 
 // A number where a test passes, else 0.
 fn only(test: bool, n: u32) -> u32
     ensures { λ r. ⌜ r ≡ cond test n 0 ⌝ }
 {
     if test { n } else { 0 }
+}
+
+fn larger(a: u32, b: u32) -> u32
+    ensures { λ r. ⌜ r ≡ max a b ⌝ }
+{
+    if a <= b { b } else { a }
 }
 
 fn is_slow(s: Stream) -> bool
@@ -54,62 +45,36 @@ fn is_slow(s: Stream) -> bool
     }
 }
 
-fn car_in(s: Stream, f: u8) -> bool
-    ensures { λ r. ⌜ r ≡ (eqb (s .phase) f && isCar (s .kind)) ⌝ }
+// Whether the junction has a pedestrian or a tram, so that (33) gives its first length.
+pub fn slow(j: Junction) -> bool
+    requires { ⌜ Taken j ⌝ }
+    ensures { λ r. ⌜ r ≡ slowIn j ⌝ }
 {
-    (s.phase == f) & questions::is_car(s)
-}
-
-fn need_in(s: Stream, f: u8, cycle: u16) -> u32
-    ensures { λ r. ⌜ r ≡ cond (eqb (s .phase) f) (needAt cycle s) 0 ⌝ }
-{
-    if s.phase == f {
-        return flows::need(s, cycle);
-    }
-    0
-}
-
-fn figure(s: Stream, load: Load, what: Sought) -> u32
-    ensures { λ r. ⌜ r ≡ figureBy s load what ⌝ }
-{
-    match what {
-        Sought::Number => s.phase as u32,
-        Sought::Slow => only(is_slow(s), 1),
-        Sought::Cars { phase } => only(car_in(s, phase), 1),
-        Sought::Ratio { phase } => only(car_in(s, phase), load.ratio),
-        Sought::Need { phase, cycle } => need_in(s, phase, cycle),
-    }
-}
-
-// The largest figure of the first streams, 0 where there is none.
-fn largest(streams: [Stream; 16], loads: Loads, n: usize, what: Sought) -> u32
-    requires { ⌜ n ≤ 16 ⌝ }
-    ensures { λ r. ⌜ r ≡ largestBy streams loads n what ⌝ }
-{
+    let n = j.held.streams;
     let mut most: u32 = 0;
     let mut i: usize = 0;
     while i < n {
-        most = larger(most, figure(streams[i], loads.of[i], what));
+        let s = j.streams[i];
+        most = larger(most, only(is_slow(s), 1));
         i += 1;
     }
-    most
+    1 <= most
 }
 
-fn larger(a: u32, b: u32) -> u32
-    ensures { λ r. ⌜ r ≡ max a b ⌝ }
-{
-    if a <= b { b } else { a }
-}
-
-// The number of phases, at most six.
-fn phase_count(j: Junction, loads: Loads) -> usize
-    requires taken { ⌜ Taken j ⌝ }
-    requires loads { ⌜ loads ≡ loadsOf j ⌝ }
-    ensures { λ r. ⌜ r ≡ phaseCount j ⌝ }
+// The number of phases: that of the last one, at most six.
+fn phase_count(streams: [Stream; 16], n: usize) -> usize
+    requires { ⌜ n ≤ 16 ⌝ }
+    ensures { λ r. ⌜ r ≡ min (largestOf (λ i. getD streams i noStream .phase) n) 6 ⌝ }
     ensures few { λ r. ⌜ r ≤ 6 ⌝ }
 {
-    let streams = j.streams;
-    at_most_six(largest(streams, loads, j.held.streams, Sought::Number))
+    let mut last: u32 = 0;
+    let mut i: usize = 0;
+    while i < n {
+        let s = streams[i];
+        last = larger(last, s.phase as u32);
+        i += 1;
+    }
+    at_most_six(last)
 }
 
 fn at_most_six(n: u32) -> usize
@@ -119,20 +84,10 @@ fn at_most_six(n: u32) -> usize
     if n <= 6 { n as usize } else { 6 }
 }
 
-// Whether the junction has a pedestrian or a tram, so that (33) gives its first length.
-pub fn slow(j: Junction, loads: Loads) -> bool
-    requires taken { ⌜ Taken j ⌝ }
-    requires loads { ⌜ loads ≡ loadsOf j ⌝ }
-    ensures { λ r. ⌜ r ≡ slowIn j ⌝ }
-{
-    let streams = j.streams;
-    1 <= largest(streams, loads, j.held.streams, Sought::Slow)
-}
-
 // The phase after a phase; the first follows the last.
 fn following(f: u8, count: usize) -> u8
     requires { ⌜ count ≤ 6 ⌝ }
-    ensures { λ r. ⌜ r ≡ cond (ltb f count) (f + 1) 1 ⌝ }
+    ensures { λ r. ⌜ r ≡ phaseAfter count f ⌝ }
 {
     if (f as usize) < count {
         return f + 1;
@@ -140,89 +95,26 @@ fn following(f: u8, count: usize) -> u8
     1
 }
 
-// The larger entry between a zone's streams, in phases a and b, that leads from phase f to phase g, 0 where none does.
-fn zone_figure(f: u8, g: u8, a: u8, b: u8, c: Conflict) -> u32
-    ensures { λ r. ⌜ r ≡ zoneFigureBy f g a b c ⌝ }
+// The largest flow ratio of each phase's cars, by one pass over the streams.
+fn ratios_of(streams: [Stream; 16], loads: Loads, n: usize) -> [u32; 6]
+    requires { ⌜ StreamPhases streams n ⌝ }
+    ensures { λ r. ⌜ ByPhase (ratiosBy streams loads n) r ⌝ }
 {
-    larger(
-        only((a == f) & (b == g), c.ahead as u32),
-        only((b == f) & (a == g), c.behind as u32),
-    )
-}
-
-fn phase_entry(j: Junction, conflicts: Conflicts, f: u8, g: u8) -> u32
-    requires taken { ⌜ Taken j ⌝ }
-    requires conflicts { ⌜ conflicts ≡ conflictsOf j ⌝ }
-    ensures { λ r. ⌜ r ≡ phaseEntry j f g ⌝ }
-{
-    let zones = j.held.zones;
-    let mut most: u32 = 0;
+    let mut ratios: [u32; 6] = [0; 6];
     let mut i: usize = 0;
-    while i < zones {
-        let z = j.zones[i];
-        let a = j.streams[z.a.stream as usize - 1];
-        let b = j.streams[z.b.stream as usize - 1];
-        most = larger(most, zone_figure(f, g, a.phase, b.phase, conflicts.of[i]));
+    while i < n {
+        let s = streams[i];
+        let f = s.phase as usize - 1;
+        ratios[f] = larger(ratios[f], only(questions::is_car(s), loads.of[i].ratio));
         i += 1;
     }
-    most
-}
-
-// M of a phase: the largest entry from its streams to those of the next phase, at least 1.
-fn intergreen(j: Junction, conflicts: Conflicts, count: usize, f: u8) -> u32
-    requires taken { ⌜ Taken j ⌝ }
-    requires conflicts { ⌜ conflicts ≡ conflictsOf j ⌝ }
-    requires count { ⌜ count ≡ phaseCount j ⌝ }
-    ensures { λ r. ⌜ r ≡ intergreenOf j f ⌝ }
-{
-    larger(1, phase_entry(j, conflicts, f, following(f, count)))
-}
-
-// The phase at a place, from 0, with its need at a cycle.
-fn phase_of(j: Junction, loads: Loads, conflicts: Conflicts, count: usize, t: u16, i: u8) -> Phase
-    requires taken { ⌜ Taken j ⌝ }
-    requires loads { ⌜ loads ≡ loadsOf j ⌝ }
-    requires conflicts { ⌜ conflicts ≡ conflictsOf j ⌝ }
-    requires count { ⌜ count ≡ phaseCount j ⌝ }
-    requires place { ⌜ i ≤ 6 ⌝ }
-    ensures { λ r. ⌜ r ≡ phaseAt j t i ⌝ }
-{
-    let streams = j.streams;
-    let n = j.held.streams;
-    let f = i + 1;
-    Phase {
-        cars: 1 <= largest(streams, loads, n, Sought::Cars { phase: f }),
-        ratio: largest(streams, loads, n, Sought::Ratio { phase: f }),
-        intergreen: intergreen(j, conflicts, count, f),
-        need: largest(streams, loads, n, Sought::Need { phase: f, cycle: t }),
-    }
-}
-
-// The phases of a junction, with their needs at a cycle.
-pub fn phases_at(j: Junction, loads: Loads, conflicts: Conflicts, t: u16) -> Phases
-    requires taken { ⌜ Taken j ⌝ }
-    requires loads { ⌜ loads ≡ loadsOf j ⌝ }
-    requires conflicts { ⌜ conflicts ≡ conflictsOf j ⌝ }
-    ensures { λ r. ⌜ r ≡ phasesAt j t ⌝ }
-{
-    let count = phase_count(j, loads);
-    let mut q = Phases {
-        count,
-        of: [phases::no_phase(); 6],
-    };
-    let mut i: usize = 0;
-    while i < count {
-        q.of[i] = phase_of(j, loads, conflicts, count, t, i as u8);
-        i += 1;
-    }
-    q
+    ratios
 }
 
 // The largest needed green of each phase's streams at a cycle, by one pass over the streams.
 fn needs_at(streams: [Stream; 16], n: usize, t: u16) -> [u32; 6]
-    requires few { ⌜ n ≤ 16 ⌝ }
-    requires phases { ⌜ ((i : ℕ) → i < n → Between 1 6 (getD streams i noStream .phase)) ⌝ }
-    ensures { λ r. ⌜ ((f : ℕ) → f < 6 → getD r f 0 ≡ largestOf (λ i. needBy (getD streams i noStream) (f + 1) t) n) ⌝ }
+    requires { ⌜ StreamPhases streams n ⌝ }
+    ensures { λ r. ⌜ ByPhase (needsBy streams t n) r ⌝ }
 {
     let mut needs: [u32; 6] = [0; 6];
     let mut i: usize = 0;
@@ -233,6 +125,72 @@ fn needs_at(streams: [Stream; 16], n: usize, t: u16) -> [u32; 6]
         i += 1;
     }
     needs
+}
+
+// The entry from a stream of phase f to one of phase g, 0 where g is not the next phase.
+fn onward(f: u8, g: u8, count: usize, entry: u16) -> u32
+    requires { ⌜ count ≤ 6 ⌝ }
+    ensures { λ r. ⌜ r ≡ onwardBy count f g entry ⌝ }
+{
+    only(g == following(f, count), entry as u32)
+}
+
+// The largest entry from each phase's streams to those of the next phase, by one pass over the zones.
+fn entries_of(streams: [Stream; 16], conflicts: Conflicts, zones: usize, count: usize) -> [u32; 6]
+    requires zones { ⌜ ZonesPhases streams conflicts zones ⌝ }
+    requires count { ⌜ count ≤ 6 ⌝ }
+    ensures { λ r. ⌜ ByPhase (entriesBy streams conflicts count zones) r ⌝ }
+{
+    let mut entries: [u32; 6] = [0; 6];
+    let mut i: usize = 0;
+    while i < zones {
+        let c = conflicts.of[i];
+        let a = streams[c.a as usize - 1];
+        let b = streams[c.b as usize - 1];
+        let f = a.phase as usize - 1;
+        entries[f] = larger(entries[f], onward(a.phase, b.phase, count, c.ahead));
+        let g = b.phase as usize - 1;
+        entries[g] = larger(entries[g], onward(b.phase, a.phase, count, c.behind));
+        i += 1;
+    }
+    entries
+}
+
+// A phase by its largest figures. It has cars where its ratio is not 0, since no car's is.
+fn phase_with(ratio: u32, entry: u32, need: u32) -> Phase
+    ensures { λ r. ⌜ r ≡ phaseWith ratio entry need ⌝ }
+{
+    Phase {
+        cars: 1 <= ratio,
+        ratio,
+        intergreen: larger(1, entry),
+        need,
+    }
+}
+
+// The phases of a junction, with their needs at a cycle.
+pub fn phases_at(j: Junction, loads: Loads, conflicts: Conflicts, t: u16) -> Phases
+    requires taken { ⌜ Taken j ⌝ }
+    requires loads { ⌜ loads ≡ loadsOf j ⌝ }
+    requires conflicts { ⌜ conflicts ≡ conflictsOf j ⌝ }
+    ensures { λ r. ⌜ r ≡ phasesAt j t ⌝ }
+{
+    let streams = j.streams;
+    let n = j.held.streams;
+    let count = phase_count(streams, n);
+    let ratios = ratios_of(streams, loads, n);
+    let entries = entries_of(streams, conflicts, j.held.zones, count);
+    let needs = needs_at(streams, n, t);
+    let mut q = Phases {
+        count,
+        of: [phases::no_phase(); 6],
+    };
+    let mut i: usize = 0;
+    while i < count {
+        q.of[i] = phase_with(ratios[i], entries[i], needs[i]);
+        i += 1;
+    }
+    q
 }
 
 // The same phases with their needs at another cycle.

@@ -25,14 +25,13 @@ pub struct Found {
 }
 
 // T0, the first length that is tried: the annex's optimum with trams at 10 s.
-fn first_tried(j: Junction, loads: Loads, q: Phases) -> u16
+fn first_tried(j: Junction, q: Phases) -> u16
     requires taken { ⌜ Taken j ⌝ }
-    requires loads { ⌜ loads ≡ loadsOf j ⌝ }
     requires phases { ⌜ q ≡ phasesAt j 0 ⌝ }
     ensures { λ r. ⌜ r ≡ firstTried j ⌝ }
 {
     phases::first_length(
-        junction_phases::slow(j, loads),
+        junction_phases::slow(j),
         phases::ratio_sum(q),
         phases::lost_time(q),
     )
@@ -100,7 +99,7 @@ fn search(j: Junction, loads: Loads, conflicts: Conflicts, fixed: Phases, first:
         let p = plan_at(j, q, slots, t);
         let mut n: usize = 0;
         while n < streams {
-            if !rules::need_met(j.streams[n], p.greens[n], p.cycle) {
+            if !rules::enough_green(j.streams[n], p.greens[n], p.cycle) {
                 t += 1;
                 continue 'search;
             }
@@ -108,7 +107,7 @@ fn search(j: Junction, loads: Loads, conflicts: Conflicts, fixed: Phases, first:
         }
         let mut c: usize = 0;
         while c < streams {
-            if !rules::capacity_met(j.streams[c], loads.of[c], p.greens[c], p.cycle) {
+            if !rules::served(j.streams[c], loads.of[c], p.greens[c], p.cycle) {
                 t += 1;
                 continue 'search;
             }
@@ -138,6 +137,6 @@ pub fn find_cycle(j: Junction, loads: Loads, conflicts: Conflicts, q: Phases) ->
     requires phases { ⌜ q ≡ phasesAt j 0 ⌝ }
     ensures { λ r. ⌜ r ≡ foundFrom j (firstTried j) ⌝ }
 {
-    let first = first_tried(j, loads, q);
+    let first = first_tried(j, q);
     search(j, loads, conflicts, q, first)
 }

@@ -22,12 +22,16 @@ dueVerdict s at expected inRange =
     (ask expected 12 at
     (ask inRange 13 at Passed)))
 
--- field 11: the cycle, 1 to 180
+-- a cycle is 1 to 180
+abbrev pub cycleInRange : ℕ → Bool
+cycleInRange cycle = leb 1 cycle && leb cycle 180
+
+-- field 11: the cycle
 unfoldable pub cycleExpected : List ℕ → Bool
 cycleExpected s = eqb (byteAt s 0) 17 && eqb (numberAt s 1) 2
 
 unfoldable pub cycleVerdict : List ℕ → Verdict
-cycleVerdict s = dueVerdict s 0 (cycleExpected s) (numberIn s 3 1 180)
+cycleVerdict s = dueVerdict s 0 (cycleExpected s) (cycleInRange (numberAt s 3))
 
 -- field 12 of stream n: stream, start below C, length from 1 to C
 unfoldable pub greenExpected : List ℕ → ℕ → ℕ → Bool

@@ -3,7 +3,7 @@ ghost use mathlib.Core.Path.{_≡_};
 ghost use Prim.Native.Nat.{_/_, _%_, _≤_, _<_};
 ghost use lib.ListN.{length};
 ghost use Rattle.laws.specs.Filled.{filled};
-ghost use Rattle.plans.specs.Plans.{noGreen, greenOf, greenAt, planOf, dueVerdict, cycleExpected, cycleVerdict, greenExpected, greenInRange, greenVerdict, greensFrom, planVerdict};
+ghost use Rattle.plans.specs.Plans.{noGreen, greenOf, greenAt, planOf, dueVerdict, cycleInRange, cycleExpected, cycleVerdict, greenExpected, greenInRange, greenVerdict, greensFrom, planVerdict};
 ghost use Rattle.plans.specs.Writing.{planSize, cycleByte, greenByte, planByte, hasRoom, written};
 use fields::Verdict;
 use fields::ask;
@@ -55,8 +55,15 @@ fn cycle_verdict(file: &[u8]) -> Verdict
         file,
         0,
         cycle_expected(file),
-        fields::number_in(file, 3, 1, 180),
+        cycle_in_range(fields::number(file, 3)),
     )
+}
+
+// Whether a cycle is one that a plan may have, in seconds.
+pub fn cycle_in_range(cycle: u16) -> bool
+    ensures { λ r. ⌜ r ≡ cycleInRange cycle ⌝ }
+{
+    (1 <= cycle) & (cycle <= 180)
 }
 
 fn green_verdict(file: &[u8], at: usize, n: usize) -> Verdict

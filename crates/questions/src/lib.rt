@@ -104,19 +104,19 @@ fn refers(tag: u8, b: &[u8], held: Held, first: Stream, second: Stream) -> bool
     let x = fields::byte(b, 0);
     if tag == 3 {
         let y = fields::byte(b, 1);
-        return numbered(held.streams, x)
-            & numbered(held.streams, y)
+        return numbered(held.streams, x as usize)
+            & numbered(held.streams, y as usize)
             & (x < y)
             & !(first.phase == second.phase);
     }
-    numbered(held.streams, x) & is_car(first)
+    numbered(held.streams, x as usize) & is_car(first)
 }
 
 // Whether a number is that of one of so many streams.
-fn numbered(streams: usize, n: u8) -> bool
+fn numbered(streams: usize, n: usize) -> bool
     ensures { λ r. ⌜ r ≡ (leb 1 n && leb n streams) ⌝ }
 {
-    (1 <= n) & (n as usize <= streams)
+    (1 <= n) & (n <= streams)
 }
 
 // Whether a number is that of a car stream.
@@ -131,7 +131,7 @@ pub fn count_refers(j: Junction, n: usize) -> bool
 pub fn exists(j: Junction, n: usize) -> bool
     ensures { λ r. ⌜ r ≡ existsIn j n ⌝ }
 {
-    (1 <= n) & (n <= j.held.streams)
+    numbered(j.held.streams, n)
 }
 
 // The stream with a number, from 1; an empty place where no stream has the number.

@@ -5,7 +5,7 @@ ghost use Rattle.fields.specs.Verdict.{firstFailing};
 ghost use Rattle.fields.specs.declared.Verdict.the-variants.{Refused};
 ghost use Rattle.reading.specs.Taken.{Taken};
 ghost use Rattle.tables.specs.Tables.{loadsOf};
-ghost use Rattle.rules.specs.Rules.{off as offOf, enoughGreen, needMet, enoughCapacity, served, capacityMet, zoneClear, zoneMet, rulesVerdict};
+ghost use Rattle.rules.specs.Rules.{off as offOf, enoughGreen, needMet, enoughCapacity, served as isServed, capacityMet, zoneClear, zoneMet, rulesVerdict};
 use fields::Verdict;
 use junction::Junction;
 use plans::Green;
@@ -57,7 +57,7 @@ fn first_short(j: Junction, p: Plan) -> usize
     let streams = j.held.streams;
     let mut i: usize = 0;
     while i < streams {
-        if !need_met(j.streams[i], p.greens[i], p.cycle) {
+        if !enough_green(j.streams[i], p.greens[i], p.cycle) {
             return i;
         }
         i += 1;
@@ -74,7 +74,7 @@ fn first_unserved(j: Junction, loads: Loads, p: Plan) -> usize
     let streams = j.held.streams;
     let mut i: usize = 0;
     while i < streams {
-        if !capacity_met(j.streams[i], loads.of[i], p.greens[i], p.cycle) {
+        if !served(j.streams[i], loads.of[i], p.greens[i], p.cycle) {
             return i;
         }
         i += 1;
@@ -114,15 +114,15 @@ fn first_unclear(j: Junction, p: Plan) -> usize
 }
 
 // Whether a stream with this green has its needed green at the cycle.
-pub fn need_met(s: Stream, green: Green, cycle: u16) -> bool
+pub fn enough_green(s: Stream, green: Green, cycle: u16) -> bool
     ensures { λ r. ⌜ r ≡ enoughGreen s green cycle ⌝ }
 {
     flows::need(s, cycle) <= green.length as u32
 }
 
 // Whether a stream with this load and green has its capacity; streams other than cars have no rule of capacity.
-pub fn capacity_met(s: Stream, load: Load, green: Green, cycle: u16) -> bool
-    ensures { λ r. ⌜ r ≡ served s load green cycle ⌝ }
+pub fn served(s: Stream, load: Load, green: Green, cycle: u16) -> bool
+    ensures { λ r. ⌜ r ≡ isServed s load green cycle ⌝ }
 {
     !questions::is_car(s) | enough_capacity(load.flow, cycle, load.saturation, green.length)
 }

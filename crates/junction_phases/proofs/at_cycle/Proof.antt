@@ -1,18 +1,14 @@
 -- `junction_phases::at_cycle` meets its contract: the invariant is that the first i places hold the first i phases with the needs worked out.
 use Prim.Native.Nat.{ℕ, _+_, _-_, _≤_, _<_}
-use mathlib.Core.List.{List}
-use mathlib.Core.Path.{_≡_, _∙_, ap, ap₂}
+use mathlib.Core.Path.{_≡_, _∙_, ap}
 use native.Mathlib.Nat.{le-antisymm}
 use native.Mathlib.Omega.{arith}
 use lib.ListN.{getD, replicate}
-use Rattle.laws.specs.Filled.{filled, filled-none, filled-next, filled-same}
+use Rattle.laws.specs.Filled.{filled, filled-none, filled-next}
 use Rattle.phases.specs.Phases.{noPhase, phase}
-use Rattle.phases.specs.declared.Phase.{Phase}
-use Rattle.phases.specs.declared.Phases.{Phases}
-use Rattle.junction_phases.specs.JunctionPhases.{largest, phaseCount, phaseAt, phasesAt, withNeed}
-use Rattle.junction_phases.specs.declared.Sought.the-variants.{Need}
-use Rattle.junction_phases.specs.Needs.{need-tabled, phase-range}
-use Rattle.junction_phases.specs.Placed.{few-phases, need-moved}
+use Rattle.junction_phases.specs.JunctionPhases.{Need, largest, phaseCount, phasesAt, withNeed}
+use Rattle.junction_phases.specs.Tabled.{needs-tabled, stream-phases}
+use Rattle.junction_phases.specs.Placed.{few-phases, phases-filled, need-moved}
 use Rattle.junction_phases.proofs.at_cycle.Statement.{statement}
 use Rattle.junction_phases.proofs.at_cycle.Tie as tie
 
@@ -24,7 +20,7 @@ abbrev μ-loop : tie.MeasureT-loop
 μ-loop q t needs count now₀ i₀ now i = q .count - i
 
 needs-at-requires : tie.Need-needs-at-requires Inv-loop μ-loop
-needs-at-requires c κs = let s = c .before in (s .pre .0 .fields .fewStreams, phase-range (s .args .j) (s .pre .0))
+needs-at-requires c κs = let s = c .before in stream-phases (s .args .j) (s .pre .0)
 
 no-phase-requires : tie.Need-no-phase-requires Inv-loop μ-loop
 no-phase-requires c κs = tt
@@ -70,16 +66,13 @@ returns c =
     let l = c .before .loop in
     let s = c .before .before .before .before .before in
     let j = s .args .j in
+    let needs = c .before .before .before .needs-at in
     let count : s .args .q .count ≡ phaseCount j = ap (λ q. q .count) (s .pre .1) in
-    let need : (k : ℕ) → k < phaseCount j → getD (c .before .before .before .needs-at .result) k 0 ≡ largest j (Need (k + 1) (s .args .t)) =
-    λ k low. c .before .before .before .needs-at .ensures k (omega (arith, few-phases j)) ∙ need-tabled j (s .pre .0) (k + 1) (s .args .t) in
-    let each : (k : ℕ) → k < phaseCount j → withNeed (phase (s .args .q) k) (getD (c .before .before .before .needs-at .result) k 0) ≡ phaseAt j (s .args .t) k =
-    λ k low. rw (s .pre .1, need k low) (need-moved j (s .args .t) k low) in
-    let made : ℕ → List Phase → Phases = λ n of. record { count = n; of = of } in
-    let filling : ℕ → Phase = λ k. withNeed (phase (s .args .q) k) (getD (c .before .before .before .needs-at .result) k 0) in
-    let places = ap (filled filling (replicate 6 noPhase)) (le-antisymm (l .inv .0) (c .loop-test .left) ∙ count) in
+    let need : (k : ℕ) → k < phaseCount j → getD (needs .result) k 0 ≡ largest j (Need (k + 1) (s .args .t)) =
+    λ k low. needs .ensures .each k (omega (arith, few-phases j)) ∙ needs-tabled j (s .pre .0) (s .args .t) (k + 1) in
     l .inv .1
-    ∙ ap₂ made count (places ∙ filled-same filling (replicate 6 noPhase) (phaseAt j (s .args .t)) (phaseCount j) each)
+    ∙ rw (le-antisymm (l .inv .0) (c .loop-test .left), count)
+    (phases-filled j (s .args .t) _ (λ k low. rw (s .pre .1, need k low) (need-moved j (s .args .t) k low)))
 
 pub at-cycle-spec : {M : Type 1} → statement M
 at-cycle-spec =

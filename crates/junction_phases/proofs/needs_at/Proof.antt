@@ -1,40 +1,46 @@
 -- `junction_phases::needs_at` meets its contract: the invariant is that each place has the largest need of the streams passed.
 use Prim.Native.Nat.{_-_, _≤_}
-use mathlib.Core.Path.{_∙_, ap}
 use native.Mathlib.Nat.{le-antisymm}
 use native.Mathlib.Omega.{arith}
 use borrow.Author.Needs.{needs}
-use Rattle.laws.specs.Largest.{largestOf}
-use Rattle.junction_phases.specs.Needs.{NeedsOf, needs-begin, needs-turn}
+use lib.ListN.{getD}
+use Rattle.laws.specs.Ranges.{Between}
+use Rattle.questions.specs.Blank.{noStream}
+use Rattle.junction_phases.specs.ByPhase.{ByPhase, raised, by-phase-none, by-phase-next}
+use Rattle.junction_phases.specs.Tabled.{needsBy}
 use Rattle.junction_phases.proofs.needs_at.Statement.{statement}
 use Rattle.junction_phases.proofs.needs_at.Tie as tie
 
 abbrev Inv-loop : tie.InvT-loop
-Inv-loop n t streams needs₀ i₀ needs i = (i ≤ n) × NeedsOf streams t i needs
+Inv-loop n t streams needs₀ i₀ needs i = (i ≤ n) × ByPhase (needsBy streams t i) needs
 
 abbrev μ-loop : tie.MeasureT-loop
 μ-loop n t streams needs₀ i₀ needs i = n - i
 
 loop-holds : tie.Need-loop-holds Inv-loop μ-loop
-loop-holds c = (omega arith, needs-begin _ _)
+loop-holds c = (omega arith, by-phase-none _)
+
+-- the stream's phase
+range : (c : tie.In-loop Inv-loop μ-loop) → Between 1 6 (getD (c .before .before .args .t1) (c .before .loop .i) noStream .phase)
+range c = c .before .before .pre .each (c .before .loop .i) (c .loop-test .taken)
 
 mul-s : tie.Need-mul-s Inv-loop μ-loop
-mul-s c = omega (arith, c .before .before .pre .0)
+mul-s c = omega arith
 
 array-copy-out-s : tie.Need-array-copy-out-s Inv-loop μ-loop
-array-copy-out-s c = omega (arith, c .before .before .pre .0)
+array-copy-out-s c = omega arith
 
 cast-f : tie.Need-cast-f Inv-loop μ-loop
 cast-f c = search needs
 
 sub-f : tie.Need-sub-f Inv-loop μ-loop
-sub-f c = c .before .before .before .before .pre .1 (c .before .before .before .loop .i) (c .before .before .loop-test .taken) .0
+sub-f c = range (c .before .before) .0
 
 mul-larger : tie.Need-mul-larger Inv-loop μ-loop
-mul-larger c = omega (arith, c .before .before .before .before .pre .1 (c .before .before .before .loop .i) (c .before .before .loop-test .taken))
+mul-larger c = omega (arith, range (c .before .before))
 
 array-read-larger : tie.Need-array-read-larger Inv-loop μ-loop
-array-read-larger c = omega (arith, c .before .before .before .before .pre .1 (c .before .before .before .loop .i) (c .before .before .loop-test .taken))
+array-read-larger c = omega (arith, range (c .before .before))
 
 need-requires : tie.Need-need-requires Inv-loop μ-loop
 need-requires c κs = tt
@@ -43,10 +49,10 @@ larger-requires : tie.Need-larger-requires Inv-loop μ-loop
 larger-requires c κs = tt
 
 mul-needs : tie.Need-mul-needs Inv-loop μ-loop
-mul-needs c = omega (arith, c .before .before .before .before .before .before .pre .1 (c .before .before .before .before .before .loop .i) (c .before .before .before .before .loop-test .taken))
+mul-needs c = omega (arith, range (c .before .before .before .before))
 
 array-write-needs : tie.Need-array-write-needs Inv-loop μ-loop
-array-write-needs c = omega (arith, c .before .before .before .before .before .before .pre .1 (c .before .before .before .before .before .loop .i) (c .before .before .before .before .loop-test .taken))
+array-write-needs c = omega (arith, range (c .before .before .before .before))
 
 add-i : tie.Need-add-i Inv-loop μ-loop
 add-i c = omega arith
@@ -56,14 +62,13 @@ loop-less c = omega arith
 
 loop-again : tie.Need-loop-again Inv-loop μ-loop
 loop-again c =
-    let l = c .before .before .before .before .before .loop in
-    let range = c .before .before .before .before .before .before .pre .1 (c .before .before .before .before .before .loop .i) (c .before .before .before .before .loop-test .taken) in
-    (omega arith, needs-turn _ _ (l .i) _ _ (l .needs) (l .inv .1) (omega (arith, range)) (omega (arith, range)) (simp (c .larger .ensures, c .before .need .ensures)))
+    let l = c .before .before .before .before .before .loop in (
+      omega arith,
+      by-phase-next _ (l .i) _ (raised _ _ _ _ (l .needs) (l .inv .1) (range (c .before .before .before .before)) (simp (c .larger .ensures, c .before .need .ensures))),
+    )
 
 returns : tie.Need-returns Inv-loop μ-loop
-returns c =
-    let l = c .before .loop in
-    λ f low. l .inv .1 .each f low ∙ ap (largestOf _) (le-antisymm (l .inv .0) (c .loop-test .left))
+returns c = let l = c .before .loop in rw (le-antisymm (l .inv .0) (c .loop-test .left)) at (l .inv .1)
 
 pub needs-at-spec : {M : Type 1} → statement M
 needs-at-spec =

@@ -1,19 +1,67 @@
--- `junction_phases::phase_count` meets its contract.
+-- `junction_phases::phase_count` meets its contract: the invariant is that the last phase so far is the largest number of those passed.
 use borrow.Author.Needs.{needs}
-use Rattle.junction_phases.specs.JunctionPhases.{phaseCount}
-use Rattle.junction_phases.specs.Tabled.{largest-tabled}
+use Prim.Native.Nat.{_-_, _≤_}
+use mathlib.Core.Path.{_≡_, sym, _∙_, ap}
+use native.Mathlib.Nat.{le-antisymm}
+use native.Mathlib.Omega.{arith}
+use lib.ListN.{getD}
+use Rattle.laws.specs.Largest.{largestOf, largest-none, largest-next}
+use Rattle.questions.specs.Blank.{noStream}
 use Rattle.junction_phases.proofs.phase_count.Statement.{statement}
 use Rattle.junction_phases.proofs.phase_count.Tie as tie
 
-largest-requires : tie.Need-largest-requires
-largest-requires c κs = search needs
+abbrev Inv-loop : tie.InvT-loop
+Inv-loop n streams last₀ i₀ last i = (i ≤ n) × (last ≡ largestOf (λ k. getD streams k noStream .phase) i)
 
-at-most-six-requires : tie.Need-at-most-six-requires
-at-most-six-requires c κs = search needs
+abbrev μ-loop : tie.MeasureT-loop
+μ-loop n streams last₀ i₀ last i = n - i
 
-returns : tie.Need-returns
-unfolding phaseCount
-returns c = let s = c .before .before .before in (simp (c .at-most-six .ensures .0, c .before .largest .ensures, s .pre .1, largest-tabled (s .args .j) (s .pre .0)), c .at-most-six .ensures .1)
+loop-holds : tie.Need-loop-holds Inv-loop μ-loop
+loop-holds c = (omega arith, sym (largest-none _))
+
+mul-s : tie.Need-mul-s Inv-loop μ-loop
+mul-s c = omega (arith, c .before .before .pre)
+
+array-copy-out-s : tie.Need-array-copy-out-s Inv-loop μ-loop
+array-copy-out-s c = omega (arith, c .before .before .pre)
+
+cast-larger : tie.Need-cast-larger Inv-loop μ-loop
+cast-larger c = search needs
+
+larger-requires : tie.Need-larger-requires Inv-loop μ-loop
+larger-requires c κs = tt
+
+add-i : tie.Need-add-i Inv-loop μ-loop
+add-i c = omega arith
+
+loop-less : tie.Need-loop-less Inv-loop μ-loop
+loop-less c = omega arith
+
+loop-again : tie.Need-loop-again Inv-loop μ-loop
+loop-again c = (omega arith, simp (c .larger .ensures, c .before .before .before .before .loop .inv .1, largest-next))
+
+at-most-six-requires : tie.Need-at-most-six-requires Inv-loop μ-loop
+at-most-six-requires c κs = tt
+
+returns : tie.Need-returns Inv-loop μ-loop
+returns c =
+    let l = c .before .before .loop in
+    let all = l .inv .1 ∙ ap (largestOf _) (le-antisymm (l .inv .0) (c .before .loop-test .left)) in
+    (c .at-most-six .ensures .0 ∙ rw all, c .at-most-six .ensures .1)
 
 pub phase-count-spec : {M : Type 1} → statement M
-phase-count-spec = tie.close (tie.spec largest-requires at-most-six-requires returns)
+phase-count-spec =
+    tie.close
+    (tie.spec
+    Inv-loop
+    μ-loop
+    loop-holds
+    mul-s
+    array-copy-out-s
+    cast-larger
+    larger-requires
+    add-i
+    loop-less
+    loop-again
+    at-most-six-requires
+    returns)

@@ -1,16 +1,72 @@
--- `junction_phases::slow` meets its contract.
-use borrow.Author.Needs.{needs}
-use Rattle.junction_phases.specs.JunctionPhases.{slow}
-use Rattle.junction_phases.specs.Tabled.{largest-tabled}
+-- `junction_phases::slow` meets its contract: the invariant is that the most so far is 1 where a stream passed is slow.
+use Prim.Native.Nat.{_-_, _≤_}
+use mathlib.Core.Bool.{cond}
+use mathlib.Core.Path.{_≡_, sym, _∙_, ap}
+use native.Mathlib.Nat.{le-antisymm}
+use native.Mathlib.Omega.{arith}
+use lib.Dec.{leb}
+use lib.ListN.{getD}
+use Rattle.laws.specs.Largest.{largestOf, largest-none, largest-next}
+use Rattle.questions.specs.Blank.{noStream}
+use Rattle.junction_phases.specs.JunctionPhases.{isSlow}
+use Rattle.junction_phases.specs.Tabled.{slow-tabled}
 use Rattle.junction_phases.proofs.slow.Statement.{statement}
 use Rattle.junction_phases.proofs.slow.Tie as tie
 
-largest-requires : tie.Need-largest-requires
-largest-requires c κs = search needs
+abbrev Inv-loop : tie.InvT-loop
+Inv-loop j n most₀ i₀ most i =
+    (i ≤ j .held .streams) × (most ≡ largestOf (λ k. cond (isSlow (getD (j .streams) k noStream .kind)) 1 0) i)
 
-returns : tie.Need-returns
-unfolding slow
-returns c = let s = c .before .before in simp (c .largest .ensures, s .pre .1, largest-tabled (s .args .j) (s .pre .0))
+abbrev μ-loop : tie.MeasureT-loop
+μ-loop j n most₀ i₀ most i = j .held .streams - i
+
+loop-holds : tie.Need-loop-holds Inv-loop μ-loop
+loop-holds c = (omega arith, sym (largest-none _))
+
+mul-s : tie.Need-mul-s Inv-loop μ-loop
+mul-s c = omega (arith, c .before .before .pre .fields .fewStreams)
+
+element-copy-out-s : tie.Need-element-copy-out-s Inv-loop μ-loop
+element-copy-out-s c = omega (arith, c .before .before .pre .fields .fewStreams)
+
+is-slow-requires : tie.Need-is-slow-requires Inv-loop μ-loop
+is-slow-requires c κs = tt
+
+only-requires : tie.Need-only-requires Inv-loop μ-loop
+only-requires c κs = tt
+
+larger-requires : tie.Need-larger-requires Inv-loop μ-loop
+larger-requires c κs = tt
+
+add-i : tie.Need-add-i Inv-loop μ-loop
+add-i c = omega arith
+
+loop-less : tie.Need-loop-less Inv-loop μ-loop
+loop-less c = omega arith
+
+loop-again : tie.Need-loop-again Inv-loop μ-loop
+loop-again c = (omega arith, simp (c .larger .ensures, c .before .only .ensures, c .before .before .is-slow .ensures, c .before .before .before .before .before .loop .inv .1, largest-next))
+
+returns : tie.Need-returns Inv-loop μ-loop
+returns c =
+    let l = c .before .loop in
+    let s = c .before .before in
+    let all = l .inv .1 ∙ ap (largestOf _) (le-antisymm (l .inv .0) (c .loop-test .left)) in
+    ap (leb 1) all ∙ slow-tabled (s .args .t1) (s .pre)
 
 pub slow-spec : {M : Type 1} → statement M
-slow-spec = tie.close (tie.spec largest-requires returns)
+slow-spec =
+    tie.close
+    (tie.spec
+    Inv-loop
+    μ-loop
+    loop-holds
+    mul-s
+    element-copy-out-s
+    is-slow-requires
+    only-requires
+    larger-requires
+    add-i
+    loop-less
+    loop-again
+    returns)

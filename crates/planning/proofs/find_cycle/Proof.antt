@@ -6,7 +6,7 @@ use Rattle.planning.proofs.find_cycle.Statement.{statement}
 use Rattle.planning.proofs.find_cycle.Tie as tie
 
 first-tried-requires : tie.Need-first-tried-requires
-first-tried-requires c κs = (c .pre .0, (c .pre .1 .0, c .pre .1 .1 .1))
+first-tried-requires c κs = (c .pre .0, c .pre .1 .1 .1)
 
 search-requires : tie.Need-search-requires
 unfolding firstTried

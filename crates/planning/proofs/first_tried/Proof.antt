@@ -18,7 +18,7 @@ first-length-requires c κs = search needs
 
 returns : tie.Need-returns
 unfolding firstTried ratios
-returns c = simp (c .first-length .ensures, c .before .lost-time .ensures, c .before .before .ratio-sum .ensures, c .before .before .before .slow .ensures, c .before .before .before .before .pre .1 .1)
+returns c = simp (c .first-length .ensures, c .before .lost-time .ensures, c .before .before .ratio-sum .ensures, c .before .before .before .slow .ensures, c .before .before .before .before .pre .1)
 
 pub first-tried-spec : {M : Type 1} → statement M
 first-tried-spec =

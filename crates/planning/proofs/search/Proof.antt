@@ -114,27 +114,27 @@ loop-holds c =
       met-none _,
     )
 
-mul-need-met : tie.Need-mul-need-met Inv-loop μ-loop Inv-loop2 μ-loop2 Inv-loop3 μ-loop3 Inv-search μ-search
-mul-need-met c = omega (arith, c .before .before .before .before .before .before .before .before .before .before .pre .0 .fields .fewStreams)
+mul-enough-green : tie.Need-mul-enough-green Inv-loop μ-loop Inv-loop2 μ-loop2 Inv-loop3 μ-loop3 Inv-search μ-search
+mul-enough-green c = omega (arith, c .before .before .before .before .before .before .before .before .before .before .pre .0 .fields .fewStreams)
 
-element-copy-out-need-met : tie.Need-element-copy-out-need-met Inv-loop μ-loop Inv-loop2 μ-loop2 Inv-loop3 μ-loop3 Inv-search μ-search
-element-copy-out-need-met c = omega (arith, c .before .before .before .before .before .before .before .before .before .before .pre .0 .fields .fewStreams)
+element-copy-out-enough-green : tie.Need-element-copy-out-enough-green Inv-loop μ-loop Inv-loop2 μ-loop2 Inv-loop3 μ-loop3 Inv-search μ-search
+element-copy-out-enough-green c = omega (arith, c .before .before .before .before .before .before .before .before .before .before .pre .0 .fields .fewStreams)
 
-mul-need-met-2 : tie.Need-mul-need-met-2 Inv-loop μ-loop Inv-loop2 μ-loop2 Inv-loop3 μ-loop3 Inv-search μ-search
-mul-need-met-2 c = omega (arith, c .before .before .before .before .before .before .before .before .before .before .before .pre .0 .fields .fewStreams)
+mul-enough-green-2 : tie.Need-mul-enough-green-2 Inv-loop μ-loop Inv-loop2 μ-loop2 Inv-loop3 μ-loop3 Inv-search μ-search
+mul-enough-green-2 c = omega (arith, c .before .before .before .before .before .before .before .before .before .before .before .pre .0 .fields .fewStreams)
 
-element-copy-out-need-met-2 : tie.Need-element-copy-out-need-met-2 Inv-loop μ-loop Inv-loop2 μ-loop2 Inv-loop3 μ-loop3 Inv-search μ-search
-element-copy-out-need-met-2 c = omega (arith, c .before .before .before .before .before .before .before .before .before .before .before .pre .0 .fields .fewStreams)
+element-copy-out-enough-green-2 : tie.Need-element-copy-out-enough-green-2 Inv-loop μ-loop Inv-loop2 μ-loop2 Inv-loop3 μ-loop3 Inv-search μ-search
+element-copy-out-enough-green-2 c = omega (arith, c .before .before .before .before .before .before .before .before .before .before .before .pre .0 .fields .fewStreams)
 
-need-met-requires : tie.Need-need-met-requires Inv-loop μ-loop Inv-loop2 μ-loop2 Inv-loop3 μ-loop3 Inv-search μ-search
-need-met-requires c κs = tt
+enough-green-requires : tie.Need-enough-green-requires Inv-loop μ-loop Inv-loop2 μ-loop2 Inv-loop3 μ-loop3 Inv-search μ-search
+enough-green-requires c κs = tt
 
-need-here : (c : tie.After-need-met Inv-loop μ-loop Inv-loop2 μ-loop2 Inv-loop3 μ-loop3 Inv-search μ-search) → c .need-met .result ≡ needMet (c .before .before .before .before .before .before .before .before .before .before .before .before .before .args .t1) (c .before .before .before .before .before .plan-at .result) (c .before .before .before .before .loop .n + 1)
+need-here : (c : tie.After-enough-green Inv-loop μ-loop Inv-loop2 μ-loop2 Inv-loop3 μ-loop3 Inv-search μ-search) → c .enough-green .result ≡ needMet (c .before .before .before .before .before .before .before .before .before .before .before .before .before .args .t1) (c .before .before .before .before .before .plan-at .result) (c .before .before .before .before .loop .n + 1)
 unfolding needMet
 need-here c =
     let n = c .before .before .before .before .loop .n in
     let low = c .before .before .before .loop-test .taken in
-    simp (c .need-met .ensures, green-place (c .before .before .before .before .before .plan-at .result) n (omega (arith, c .before .before .before .before .before .before .before .before .before .before .before .before .before .pre .0 .fields .fewStreams)), stream-place (c .before .before .before .before .before .before .before .before .before .before .before .before .before .args .t1) (c .before .before .before .before .before .before .before .before .before .before .before .before .before .pre .0) n low)
+    simp (c .enough-green .ensures, green-place (c .before .before .before .before .before .plan-at .result) n (omega (arith, c .before .before .before .before .before .before .before .before .before .before .before .before .before .pre .0 .fields .fewStreams)), stream-place (c .before .before .before .before .before .before .before .before .before .before .before .before .before .args .t1) (c .before .before .before .before .before .before .before .before .before .before .before .before .before .pre .0) n low)
 
 add-t-2 : tie.Need-add-t-2 Inv-loop μ-loop Inv-loop2 μ-loop2 Inv-loop3 μ-loop3 Inv-search μ-search
 add-t-2 c = omega (arith, c .before .before .before .before .before .loop .inv .2 .high)
@@ -164,33 +164,33 @@ loop2-holds c =
     let l = c .before .loop in
     (refl, omega arith, l .inv .2, subst (Met _) (le-antisymm (l .inv .1) (c .loop-test .left)) (l .inv .3), met-none _)
 
-mul-capacity-met : tie.Need-mul-capacity-met Inv-loop μ-loop Inv-loop2 μ-loop2 Inv-loop3 μ-loop3 Inv-search μ-search
-mul-capacity-met c = omega (arith, c .before .before .before .before .before .before .before .before .before .before .before .before .pre .0 .fields .fewStreams)
+mul-served : tie.Need-mul-served Inv-loop μ-loop Inv-loop2 μ-loop2 Inv-loop3 μ-loop3 Inv-search μ-search
+mul-served c = omega (arith, c .before .before .before .before .before .before .before .before .before .before .before .before .pre .0 .fields .fewStreams)
 
-element-copy-out-capacity-met : tie.Need-element-copy-out-capacity-met Inv-loop μ-loop Inv-loop2 μ-loop2 Inv-loop3 μ-loop3 Inv-search μ-search
-element-copy-out-capacity-met c = omega (arith, c .before .before .before .before .before .before .before .before .before .before .before .before .pre .0 .fields .fewStreams)
+element-copy-out-served : tie.Need-element-copy-out-served Inv-loop μ-loop Inv-loop2 μ-loop2 Inv-loop3 μ-loop3 Inv-search μ-search
+element-copy-out-served c = omega (arith, c .before .before .before .before .before .before .before .before .before .before .before .before .pre .0 .fields .fewStreams)
 
-mul-capacity-met-2 : tie.Need-mul-capacity-met-2 Inv-loop μ-loop Inv-loop2 μ-loop2 Inv-loop3 μ-loop3 Inv-search μ-search
-mul-capacity-met-2 c = omega (arith, c .before .before .before .before .before .before .before .before .before .before .before .before .before .pre .0 .fields .fewStreams)
+mul-served-2 : tie.Need-mul-served-2 Inv-loop μ-loop Inv-loop2 μ-loop2 Inv-loop3 μ-loop3 Inv-search μ-search
+mul-served-2 c = omega (arith, c .before .before .before .before .before .before .before .before .before .before .before .before .before .pre .0 .fields .fewStreams)
 
-element-copy-out-capacity-met-2 : tie.Need-element-copy-out-capacity-met-2 Inv-loop μ-loop Inv-loop2 μ-loop2 Inv-loop3 μ-loop3 Inv-search μ-search
-element-copy-out-capacity-met-2 c = omega (arith, c .before .before .before .before .before .before .before .before .before .before .before .before .before .pre .0 .fields .fewStreams)
+element-copy-out-served-2 : tie.Need-element-copy-out-served-2 Inv-loop μ-loop Inv-loop2 μ-loop2 Inv-loop3 μ-loop3 Inv-search μ-search
+element-copy-out-served-2 c = omega (arith, c .before .before .before .before .before .before .before .before .before .before .before .before .before .pre .0 .fields .fewStreams)
 
-mul-capacity-met-3 : tie.Need-mul-capacity-met-3 Inv-loop μ-loop Inv-loop2 μ-loop2 Inv-loop3 μ-loop3 Inv-search μ-search
-mul-capacity-met-3 c = omega (arith, c .before .before .before .before .before .before .before .before .before .before .before .before .before .before .pre .0 .fields .fewStreams)
+mul-served-3 : tie.Need-mul-served-3 Inv-loop μ-loop Inv-loop2 μ-loop2 Inv-loop3 μ-loop3 Inv-search μ-search
+mul-served-3 c = omega (arith, c .before .before .before .before .before .before .before .before .before .before .before .before .before .before .pre .0 .fields .fewStreams)
 
-element-copy-out-capacity-met-3 : tie.Need-element-copy-out-capacity-met-3 Inv-loop μ-loop Inv-loop2 μ-loop2 Inv-loop3 μ-loop3 Inv-search μ-search
-element-copy-out-capacity-met-3 c = omega (arith, c .before .before .before .before .before .before .before .before .before .before .before .before .before .before .pre .0 .fields .fewStreams)
+element-copy-out-served-3 : tie.Need-element-copy-out-served-3 Inv-loop μ-loop Inv-loop2 μ-loop2 Inv-loop3 μ-loop3 Inv-search μ-search
+element-copy-out-served-3 c = omega (arith, c .before .before .before .before .before .before .before .before .before .before .before .before .before .before .pre .0 .fields .fewStreams)
 
-capacity-met-requires : tie.Need-capacity-met-requires Inv-loop μ-loop Inv-loop2 μ-loop2 Inv-loop3 μ-loop3 Inv-search μ-search
-capacity-met-requires c κs = tt
+served-requires : tie.Need-served-requires Inv-loop μ-loop Inv-loop2 μ-loop2 Inv-loop3 μ-loop3 Inv-search μ-search
+served-requires c κs = tt
 
-capacity-here : (c : tie.After-capacity-met Inv-loop μ-loop Inv-loop2 μ-loop2 Inv-loop3 μ-loop3 Inv-search μ-search) → c .capacity-met .result ≡ capacityMet (c .before .before .before .before .before .before .before .before .before .before .before .before .before .before .before .before .args .t1) (c .before .before .before .before .before .before .before .before .plan-at .result) (c .before .before .before .before .before .loop2 .c + 1)
+capacity-here : (c : tie.After-served Inv-loop μ-loop Inv-loop2 μ-loop2 Inv-loop3 μ-loop3 Inv-search μ-search) → c .served .result ≡ capacityMet (c .before .before .before .before .before .before .before .before .before .before .before .before .before .before .before .before .args .t1) (c .before .before .before .before .before .before .before .before .plan-at .result) (c .before .before .before .before .before .loop2 .c + 1)
 unfolding capacityMet
 capacity-here c =
     let i = c .before .before .before .before .before .loop2 .c in
     let low = c .before .before .before .before .loop2-test .taken in
-    simp (c .capacity-met .ensures, green-place (c .before .before .before .before .before .before .before .before .plan-at .result) i (omega (arith, c .before .before .before .before .before .before .before .before .before .before .before .before .before .before .before .before .pre .0 .fields .fewStreams)), c .before .before .before .before .before .before .before .before .before .before .before .before .before .before .before .before .pre .1 .0, stream-place (c .before .before .before .before .before .before .before .before .before .before .before .before .before .before .before .before .args .t1) (c .before .before .before .before .before .before .before .before .before .before .before .before .before .before .before .before .pre .0) i low, load-place (c .before .before .before .before .before .before .before .before .before .before .before .before .before .before .before .before .args .t1) (c .before .before .before .before .before .before .before .before .before .before .before .before .before .before .before .before .pre .0) i low)
+    simp (c .served .ensures, green-place (c .before .before .before .before .before .before .before .before .plan-at .result) i (omega (arith, c .before .before .before .before .before .before .before .before .before .before .before .before .before .before .before .before .pre .0 .fields .fewStreams)), c .before .before .before .before .before .before .before .before .before .before .before .before .before .before .before .before .pre .1 .0, stream-place (c .before .before .before .before .before .before .before .before .before .before .before .before .before .before .before .before .args .t1) (c .before .before .before .before .before .before .before .before .before .before .before .before .before .before .before .before .pre .0) i low, load-place (c .before .before .before .before .before .before .before .before .before .before .before .before .before .before .before .before .args .t1) (c .before .before .before .before .before .before .before .before .before .before .before .before .before .before .before .before .pre .0) i low)
 
 add-t-3 : tie.Need-add-t-3 Inv-loop μ-loop Inv-loop2 μ-loop2 Inv-loop3 μ-loop3 Inv-search μ-search
 add-t-3 c = omega (arith, c .before .before .before .before .before .before .loop2 .inv .2 .high)
@@ -327,11 +327,11 @@ search-spec =
     search-again
     plan-at-requires
     loop-holds
-    mul-need-met
-    element-copy-out-need-met
-    mul-need-met-2
-    element-copy-out-need-met-2
-    need-met-requires
+    mul-enough-green
+    element-copy-out-enough-green
+    mul-enough-green-2
+    element-copy-out-enough-green-2
+    enough-green-requires
     add-t-2
     search-less-2
     search-again-2
@@ -339,13 +339,13 @@ search-spec =
     loop-less
     loop-again
     loop2-holds
-    mul-capacity-met
-    element-copy-out-capacity-met
-    mul-capacity-met-2
-    element-copy-out-capacity-met-2
-    mul-capacity-met-3
-    element-copy-out-capacity-met-3
-    capacity-met-requires
+    mul-served
+    element-copy-out-served
+    mul-served-2
+    element-copy-out-served-2
+    mul-served-3
+    element-copy-out-served-3
+    served-requires
     add-t-3
     search-less-3
     search-again-3

@@ -23,27 +23,27 @@ loop-holds : tie.Need-loop-holds Inv-loop μ-loop
 unfolding firstFailing
 loop-holds c = (omega arith, refl)
 
-mul-need-met : tie.Need-mul-need-met Inv-loop μ-loop
-mul-need-met c = omega (arith, c .before .before .pre .fields .fewStreams)
+mul-enough-green : tie.Need-mul-enough-green Inv-loop μ-loop
+mul-enough-green c = omega (arith, c .before .before .pre .fields .fewStreams)
 
-element-copy-out-need-met : tie.Need-element-copy-out-need-met Inv-loop μ-loop
-element-copy-out-need-met c = omega (arith, c .before .before .pre .fields .fewStreams)
+element-copy-out-enough-green : tie.Need-element-copy-out-enough-green Inv-loop μ-loop
+element-copy-out-enough-green c = omega (arith, c .before .before .pre .fields .fewStreams)
 
-mul-need-met-2 : tie.Need-mul-need-met-2 Inv-loop μ-loop
-mul-need-met-2 c = omega (arith, c .before .before .before .pre .fields .fewStreams)
+mul-enough-green-2 : tie.Need-mul-enough-green-2 Inv-loop μ-loop
+mul-enough-green-2 c = omega (arith, c .before .before .before .pre .fields .fewStreams)
 
-element-copy-out-need-met-2 : tie.Need-element-copy-out-need-met-2 Inv-loop μ-loop
-element-copy-out-need-met-2 c = omega (arith, c .before .before .before .pre .fields .fewStreams)
+element-copy-out-enough-green-2 : tie.Need-element-copy-out-enough-green-2 Inv-loop μ-loop
+element-copy-out-enough-green-2 c = omega (arith, c .before .before .before .pre .fields .fewStreams)
 
-need-met-requires : tie.Need-need-met-requires Inv-loop μ-loop
-need-met-requires c κs = tt
+enough-green-requires : tie.Need-enough-green-requires Inv-loop μ-loop
+enough-green-requires c κs = tt
 
-here : (c : tie.After-need-met Inv-loop μ-loop) → c .need-met .result ≡ needMet (c .before .before .before .before .before .args .t1) (c .before .before .before .before .before .args .t2) (c .before .before .before .before .loop .i + 1)
+here : (c : tie.After-enough-green Inv-loop μ-loop) → c .enough-green .result ≡ needMet (c .before .before .before .before .before .args .t1) (c .before .before .before .before .before .args .t2) (c .before .before .before .before .loop .i + 1)
 unfolding needMet
 here c =
     let i = c .before .before .before .before .loop .i in
     let low = c .before .before .before .loop-test .taken in
-    simp (c .need-met .ensures, green-place (c .before .before .before .before .before .args .t2) i (omega (arith, c .before .before .before .before .before .pre .fields .fewStreams)), stream-place (c .before .before .before .before .before .args .t1) (c .before .before .before .before .before .pre) i low)
+    simp (c .enough-green .ensures, green-place (c .before .before .before .before .before .args .t2) i (omega (arith, c .before .before .before .before .before .pre .fields .fewStreams)), stream-place (c .before .before .before .before .before .args .t1) (c .before .before .before .before .before .pre) i low)
 
 returns : tie.Need-returns Inv-loop μ-loop
 returns c =
@@ -71,11 +71,11 @@ first-short-spec =
     Inv-loop
     μ-loop
     loop-holds
-    mul-need-met
-    element-copy-out-need-met
-    mul-need-met-2
-    element-copy-out-need-met-2
-    need-met-requires
+    mul-enough-green
+    element-copy-out-enough-green
+    mul-enough-green-2
+    element-copy-out-enough-green-2
+    enough-green-requires
     returns
     add-i
     loop-less

@@ -23,33 +23,33 @@ loop-holds : tie.Need-loop-holds Inv-loop μ-loop
 unfolding firstFailing
 loop-holds c = (omega arith, refl)
 
-mul-capacity-met : tie.Need-mul-capacity-met Inv-loop μ-loop
-mul-capacity-met c = omega (arith, c .before .before .pre .0 .fields .fewStreams)
+mul-served : tie.Need-mul-served Inv-loop μ-loop
+mul-served c = omega (arith, c .before .before .pre .0 .fields .fewStreams)
 
-element-copy-out-capacity-met : tie.Need-element-copy-out-capacity-met Inv-loop μ-loop
-element-copy-out-capacity-met c = omega (arith, c .before .before .pre .0 .fields .fewStreams)
+element-copy-out-served : tie.Need-element-copy-out-served Inv-loop μ-loop
+element-copy-out-served c = omega (arith, c .before .before .pre .0 .fields .fewStreams)
 
-mul-capacity-met-2 : tie.Need-mul-capacity-met-2 Inv-loop μ-loop
-mul-capacity-met-2 c = omega (arith, c .before .before .before .pre .0 .fields .fewStreams)
+mul-served-2 : tie.Need-mul-served-2 Inv-loop μ-loop
+mul-served-2 c = omega (arith, c .before .before .before .pre .0 .fields .fewStreams)
 
-element-copy-out-capacity-met-2 : tie.Need-element-copy-out-capacity-met-2 Inv-loop μ-loop
-element-copy-out-capacity-met-2 c = omega (arith, c .before .before .before .pre .0 .fields .fewStreams)
+element-copy-out-served-2 : tie.Need-element-copy-out-served-2 Inv-loop μ-loop
+element-copy-out-served-2 c = omega (arith, c .before .before .before .pre .0 .fields .fewStreams)
 
-mul-capacity-met-3 : tie.Need-mul-capacity-met-3 Inv-loop μ-loop
-mul-capacity-met-3 c = omega (arith, c .before .before .before .before .pre .0 .fields .fewStreams)
+mul-served-3 : tie.Need-mul-served-3 Inv-loop μ-loop
+mul-served-3 c = omega (arith, c .before .before .before .before .pre .0 .fields .fewStreams)
 
-element-copy-out-capacity-met-3 : tie.Need-element-copy-out-capacity-met-3 Inv-loop μ-loop
-element-copy-out-capacity-met-3 c = omega (arith, c .before .before .before .before .pre .0 .fields .fewStreams)
+element-copy-out-served-3 : tie.Need-element-copy-out-served-3 Inv-loop μ-loop
+element-copy-out-served-3 c = omega (arith, c .before .before .before .before .pre .0 .fields .fewStreams)
 
-capacity-met-requires : tie.Need-capacity-met-requires Inv-loop μ-loop
-capacity-met-requires c κs = tt
+served-requires : tie.Need-served-requires Inv-loop μ-loop
+served-requires c κs = tt
 
-here : (c : tie.After-capacity-met Inv-loop μ-loop) → c .capacity-met .result ≡ capacityMet (c .before .before .before .before .before .before .args .t1) (c .before .before .before .before .before .before .args .t3) (c .before .before .before .before .before .loop .i + 1)
+here : (c : tie.After-served Inv-loop μ-loop) → c .served .result ≡ capacityMet (c .before .before .before .before .before .before .args .t1) (c .before .before .before .before .before .before .args .t3) (c .before .before .before .before .before .loop .i + 1)
 unfolding capacityMet
 here c =
     let i = c .before .before .before .before .before .loop .i in
     let low = c .before .before .before .before .loop-test .taken in
-    simp (c .capacity-met .ensures, green-place (c .before .before .before .before .before .before .args .t3) i (omega (arith, c .before .before .before .before .before .before .pre .0 .fields .fewStreams)), c .before .before .before .before .before .before .pre .1, stream-place (c .before .before .before .before .before .before .args .t1) (c .before .before .before .before .before .before .pre .0) i low, load-place (c .before .before .before .before .before .before .args .t1) (c .before .before .before .before .before .before .pre .0) i low)
+    simp (c .served .ensures, green-place (c .before .before .before .before .before .before .args .t3) i (omega (arith, c .before .before .before .before .before .before .pre .0 .fields .fewStreams)), c .before .before .before .before .before .before .pre .1, stream-place (c .before .before .before .before .before .before .args .t1) (c .before .before .before .before .before .before .pre .0) i low, load-place (c .before .before .before .before .before .before .args .t1) (c .before .before .before .before .before .before .pre .0) i low)
 
 returns : tie.Need-returns Inv-loop μ-loop
 returns c =
@@ -77,13 +77,13 @@ first-unserved-spec =
     Inv-loop
     μ-loop
     loop-holds
-    mul-capacity-met
-    element-copy-out-capacity-met
-    mul-capacity-met-2
-    element-copy-out-capacity-met-2
-    mul-capacity-met-3
-    element-copy-out-capacity-met-3
-    capacity-met-requires
+    mul-served
+    element-copy-out-served
+    mul-served-2
+    element-copy-out-served-2
+    mul-served-3
+    element-copy-out-served-3
+    served-requires
     returns
     add-i
     loop-less

@@ -1,7 +1,7 @@
--- `rules::capacity_met` meets its contract.
+-- `rules::served` meets its contract.
 use borrow.Author.Needs.{needs}
-use Rattle.rules.proofs.capacity_met.Statement.{statement}
-use Rattle.rules.proofs.capacity_met.Tie as tie
+use Rattle.rules.proofs.served.Statement.{statement}
+use Rattle.rules.proofs.served.Tie as tie
 
 is-car-requires : tie.Need-is-car-requires
 is-car-requires c κs = search needs
@@ -12,5 +12,5 @@ enough-capacity-requires c κs = search needs
 returns : tie.Need-returns
 returns c = simp (c .enough-capacity .ensures, c .before .is-car .ensures)
 
-pub capacity-met-spec : {M : Type 1} → statement M
-capacity-met-spec = tie.close (tie.spec is-car-requires enough-capacity-requires returns)
+pub served-spec : {M : Type 1} → statement M
+served-spec = tie.close (tie.spec is-car-requires enough-capacity-requires returns)

@@ -1,0 +1,105 @@
+-- `junction_phases::ratios_of` meets its contract: the invariant is that each phase has the largest ratio of its cars among the streams passed.
+use borrow.Author.Needs.{needs}
+use Prim.Native.Nat.{_-_, _≤_}
+use native.Mathlib.Nat.{le-antisymm}
+use native.Mathlib.Omega.{arith}
+use lib.ListN.{getD}
+use Rattle.laws.specs.Ranges.{Between}
+use Rattle.questions.specs.Blank.{noStream}
+use Rattle.junction_phases.specs.ByPhase.{ByPhase, raised, by-phase-none, by-phase-next}
+use Rattle.junction_phases.specs.Tabled.{ratiosBy}
+use Rattle.junction_phases.proofs.ratios_of.Statement.{statement}
+use Rattle.junction_phases.proofs.ratios_of.Tie as tie
+
+abbrev Inv-loop : tie.InvT-loop
+Inv-loop n streams loads ratios₀ i₀ ratios i = (i ≤ n) × ByPhase (ratiosBy streams loads i) ratios
+
+abbrev μ-loop : tie.MeasureT-loop
+μ-loop n streams loads ratios₀ i₀ ratios i = n - i
+
+loop-holds : tie.Need-loop-holds Inv-loop μ-loop
+loop-holds c = (omega arith, by-phase-none _)
+
+-- the stream's phase
+range : (c : tie.In-loop Inv-loop μ-loop) → Between 1 6 (getD (c .before .before .args .t1) (c .before .loop .i) noStream .phase)
+range c = c .before .before .pre .each (c .before .loop .i) (c .loop-test .taken)
+
+mul-s : tie.Need-mul-s Inv-loop μ-loop
+mul-s c = omega arith
+
+array-copy-out-s : tie.Need-array-copy-out-s Inv-loop μ-loop
+array-copy-out-s c = omega arith
+
+cast-f : tie.Need-cast-f Inv-loop μ-loop
+cast-f c = search needs
+
+sub-f : tie.Need-sub-f Inv-loop μ-loop
+sub-f c = range (c .before .before) .0
+
+mul-larger : tie.Need-mul-larger Inv-loop μ-loop
+mul-larger c = omega (arith, range (c .before .before))
+
+array-read-larger : tie.Need-array-read-larger Inv-loop μ-loop
+array-read-larger c = omega (arith, range (c .before .before))
+
+is-car-requires : tie.Need-is-car-requires Inv-loop μ-loop
+is-car-requires c κs = tt
+
+mul-only : tie.Need-mul-only Inv-loop μ-loop
+mul-only c = omega arith
+
+element-copy-out-only : tie.Need-element-copy-out-only Inv-loop μ-loop
+element-copy-out-only c = omega arith
+
+only-requires : tie.Need-only-requires Inv-loop μ-loop
+only-requires c κs = tt
+
+larger-requires : tie.Need-larger-requires Inv-loop μ-loop
+larger-requires c κs = tt
+
+mul-ratios : tie.Need-mul-ratios Inv-loop μ-loop
+mul-ratios c = omega (arith, range (c .before .before .before .before .before))
+
+array-write-ratios : tie.Need-array-write-ratios Inv-loop μ-loop
+array-write-ratios c = omega (arith, range (c .before .before .before .before .before))
+
+add-i : tie.Need-add-i Inv-loop μ-loop
+add-i c = omega arith
+
+loop-less : tie.Need-loop-less Inv-loop μ-loop
+loop-less c = omega arith
+
+loop-again : tie.Need-loop-again Inv-loop μ-loop
+loop-again c =
+    let l = c .before .before .before .before .before .before .loop in (
+      omega arith,
+      by-phase-next _ (l .i) _ (raised _ _ _ _ (l .ratios) (l .inv .1) (range (c .before .before .before .before .before)) (simp (c .larger .ensures, c .before .only .ensures, c .before .before .is-car .ensures))),
+    )
+
+returns : tie.Need-returns Inv-loop μ-loop
+returns c = let l = c .before .loop in rw (le-antisymm (l .inv .0) (c .loop-test .left)) at (l .inv .1)
+
+pub ratios-of-spec : {M : Type 1} → statement M
+ratios-of-spec =
+    tie.close
+    (tie.spec
+    Inv-loop
+    μ-loop
+    loop-holds
+    mul-s
+    array-copy-out-s
+    cast-f
+    sub-f
+    mul-larger
+    array-read-larger
+    is-car-requires
+    mul-only
+    element-copy-out-only
+    only-requires
+    larger-requires
+    mul-ratios
+    array-write-ratios
+    add-i
+    loop-less
+    loop-again
+    returns)
