@@ -9,7 +9,7 @@ use model::junction::{Car, Count, Cyclist, Junction, Kind, Pedestrian, Stream};
 use model::random::{seed, Random};
 use model::times::Entries;
 use model::work_out::{first_length, phases, search};
-use rounds::{in_turns, Spread};
+use rounds::{in_turns, Race, Spread};
 use std::hint::black_box;
 use std::time::Duration;
 
@@ -46,7 +46,7 @@ fn assert_same_refusals(r: &mut Random) {
 
 // ---- times
 
-fn time_working_out(files: &[Vec<u8>], rounds: usize, round: Duration) -> (Spread, Spread) {
+fn time_working_out(files: &[Vec<u8>], rounds: usize, round: Duration) -> Race {
     files.iter().for_each(|f| assert_same_plan(f));
     let (mut a, mut b) = ([0; ROOM], [0; ROOM]);
     let mut library = || {
@@ -64,7 +64,7 @@ fn time_working_out(files: &[Vec<u8>], rounds: usize, round: Duration) -> (Sprea
     in_turns(&mut library, &mut plain, files.len(), rounds, round)
 }
 
-fn time_judging(pairs: &[(Vec<u8>, Vec<u8>)], rounds: usize, round: Duration) -> (Spread, Spread) {
+fn time_judging(pairs: &[(Vec<u8>, Vec<u8>)], rounds: usize, round: Duration) -> Race {
     pairs.iter().for_each(|(junction, plan)| assert_same_verdict(junction, plan));
     let mut library = || {
         for (junction, plan) in pairs {
@@ -81,20 +81,21 @@ fn time_judging(pairs: &[(Vec<u8>, Vec<u8>)], rounds: usize, round: Duration) ->
 
 // ---- tables
 
-/// Plans a second, with the least and the greatest of the rounds, and the ratio of the median times.
-fn print_rates(what: &str, times: (Spread, Spread)) {
+/// Plans a second, with the least and the greatest of the rounds, the ratio, and that of the fastest rounds.
+fn print_rates(what: &str, race: Race) {
     let rate = |s: Spread| format!("{:.0} ({:.0} to {:.0})", 1.0 / s.median, 1.0 / s.greatest, 1.0 / s.least);
-    println!("| {what} | {} | {} | {:.2} |", rate(times.0), rate(times.1), times.0.median / times.1.median);
+    let fastest = race.library.least / race.plain.least;
+    println!("| {what} | {} | {} | {:.2} | {fastest:.2} |", rate(race.library), rate(race.plain), race.ratio);
 }
 
-/// Times in microseconds, and the ratio of the medians.
-fn print_times(what: &str, times: (Spread, Spread)) {
+/// Times in microseconds, and the ratio.
+fn print_times(what: &str, race: Race) {
     let time = |s: Spread| format!("{:.1} ({:.1} to {:.1})", s.median * 1e6, s.least * 1e6, s.greatest * 1e6);
-    println!("| {what} | {} | {} | {:.2} |", time(times.0), time(times.1), times.0.median / times.1.median);
+    println!("| {what} | {} | {} | {:.2} |", time(race.library), time(race.plain), race.ratio);
 }
 
-fn head(what: &str, unit: &str) {
-    println!("\n| {what} | library, {unit} | plain, {unit} | time library/plain |");
+fn head(what: &str) {
+    println!("\n| {what} | library, µs | plain, µs | time library/plain |");
     println!("|---|---|---|---|");
 }
 
@@ -172,43 +173,44 @@ fn mixed(r: &mut Random) -> (Vec<Vec<u8>>, Vec<(Vec<u8>, Vec<u8>)>) {
 fn main() {
     let mut r = Random::new(seed("benchmark", 21));
     assert_same_refusals(&mut r);
-    let (rounds, round) = (15, Duration::from_millis(150));
+    let (rounds, round) = (61, Duration::from_millis(40));
     let (files, pairs) = mixed(&mut r);
     let worked = files.iter().filter(|f| library::work_out(f, &mut [0; ROOM]).is_ok()).count();
     let accepted = pairs.iter().filter(|(j, p)| library::judge(j, p).is_ok()).count();
     println!("{} junction files, a plan for {worked}; {} well-formed plans, {accepted} accepted.", files.len(), pairs.len());
     println!("{rounds} rounds in turns: the median, in brackets the least and the greatest.");
-    head("mixed files", "plans a second");
+    println!("\n| mixed files | library, plans a second | plain, plans a second | time library/plain | of the fastest rounds |");
+    println!("|---|---|---|---|---|");
     print_rates("worked out", time_working_out(&files, rounds, round));
     print_rates("judged", time_judging(&pairs, rounds, round));
 
-    let (rounds, round) = (7, Duration::from_millis(30));
+    let (rounds, round) = (21, Duration::from_millis(10));
     println!("\nThe tables below: {rounds} rounds in turns, microseconds for one junction.");
 
-    head("working out, streams (2 phases, 8 zones, first length works)", "µs");
+    head("working out, streams (2 phases, 8 zones, first length works)");
     for streams in 2..=16 {
         let files = of_shape(&mut r, (2, streams, 8, 1), 1, 1);
         print_times(&streams.to_string(), time_working_out(&files, rounds, round));
     }
-    head("working out, zones (2 phases, 12 streams, first length works)", "µs");
+    head("working out, zones (2 phases, 12 streams, first length works)");
     for zones in [0, 1, 2, 4, 8, 16, 24, 32, 40, 48, 56, 64] {
         let files = of_shape(&mut r, (2, 12, zones, 1), 1, 1);
         print_times(&zones.to_string(), time_working_out(&files, rounds, round));
     }
-    head("working out, lengths tried (3 phases, 8 streams, 12 zones)", "µs");
+    head("working out, lengths tried (3 phases, 8 streams, 12 zones)");
     for (least, most) in [(1, 1), (2, 3), (4, 7), (8, 15), (16, 31), (32, 63), (64, 127)] {
         let files = of_shape(&mut r, (3, 8, 12, 1), least, most);
         let what = if least == most { least.to_string() } else { format!("{least} to {most}") };
         print_times(&what, time_working_out(&files, rounds, round));
     }
-    head("working out, lengths tried (2 phases, 8 streams, no zones)", "µs");
+    head("working out, lengths tried (2 phases, 8 streams, no zones)");
     for small_flow in [900, 300, 150, 100, 75, 60, 50, 1] {
         let j = long_search(small_flow);
         let refused = if small_flow == 1 { ", then 22" } else { "" };
         print_times(&format!("{}{refused}", lengths(&j)), time_working_out(&[j.to_file()], rounds, round));
     }
 
-    head("16 streams, 64 zones, 128 counts (4 phases)", "µs");
+    head("16 streams, 64 zones, 128 counts (4 phases)");
     let full: Vec<Junction> = (0..20).map(|_| make_junction(&mut r, 4, 16, 64, 128)).collect();
     let files: Vec<Vec<u8>> = full.iter().map(Junction::to_file).collect();
     print_times("worked out, or refused", time_working_out(&files, rounds, round));

@@ -1,7 +1,7 @@
 //! Times of two programs, taken in turns.
 use std::time::{Duration, Instant};
 
-/// Seconds for one call: the median of the rounds, the least and the greatest.
+/// Of some rounds the median, the least and the greatest.
 #[derive(Clone, Copy)]
 pub struct Spread {
     pub median: f64,
@@ -9,9 +9,16 @@ pub struct Spread {
     pub greatest: f64,
 }
 
-fn spread(mut seconds: Vec<f64>) -> Spread {
-    seconds.sort_by(f64::total_cmp);
-    Spread { median: seconds[seconds.len() / 2], least: seconds[0], greatest: seconds[seconds.len() - 1] }
+/// The times of the two, and how many times the plain code's the library's is.
+pub struct Race {
+    pub library: Spread,
+    pub plain: Spread,
+    pub ratio: f64,
+}
+
+fn spread(mut numbers: Vec<f64>) -> Spread {
+    numbers.sort_by(f64::total_cmp);
+    Spread { median: numbers[numbers.len() / 2], least: numbers[0], greatest: numbers[numbers.len() - 1] }
 }
 
 /// How often a program runs in one round, so that the round takes about so long.
@@ -35,13 +42,15 @@ fn seconds(program: &mut dyn FnMut(), repeats: u32) -> f64 {
     start.elapsed().as_secs_f64() / repeats as f64
 }
 
-/// Runs the two in turns for so many rounds. `calls` is the number of calls in one run of a program.
-pub fn in_turns(a: &mut dyn FnMut(), b: &mut dyn FnMut(), calls: usize, rounds: usize, round: Duration) -> (Spread, Spread) {
+/// Runs the two in turns for so many rounds. `calls` is the number of calls in one run of a program. The ratio is taken of each turn, and is
+/// the median of these: what slows the machine for a while slows both programs of a turn.
+pub fn in_turns(a: &mut dyn FnMut(), b: &mut dyn FnMut(), calls: usize, rounds: usize, round: Duration) -> Race {
     let (often_a, often_b) = (repeats(a, round), repeats(b, round));
     let (mut of_a, mut of_b) = (vec![], vec![]);
     for _ in 0..rounds {
         of_a.push(seconds(a, often_a) / calls as f64);
         of_b.push(seconds(b, often_b) / calls as f64);
     }
-    (spread(of_a), spread(of_b))
+    let ratios = of_a.iter().zip(&of_b).map(|(a, b)| a / b).collect();
+    Race { library: spread(of_a), plain: spread(of_b), ratio: spread(ratios).median }
 }

@@ -67,7 +67,7 @@ module _ (junction : List ℕ) where
   -- a need, exactly where the file is taken, the stream exists and the cycle is in range
   pub need-told : (n cycle : ℕ)
       → (needAnswer junction n cycle .refusal ≡ 0)
-      ↔ ((reading junction .verdict ≡ Passed) × (exists (reading junction .junction) n ≡ true) × ((cycleInRange cycle) ≡ true))
+      ↔ ((reading junction .verdict ≡ Passed) × (exists (reading junction .junction) n ≡ true) × (cycleInRange cycle ≡ true))
   unfolding needAnswer needVerdict
   need-told n cycle =
       let j = reading junction .junction in

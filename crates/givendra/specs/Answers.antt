@@ -51,7 +51,7 @@ junctionAnswer junction =
 unfoldable pub figure : Verdict → ℕ → Figure
 figure v x = record { place = placeOf v; refusal = numberOf v; value = unlessRefused v x }
 
--- an entry's own questions, after the junction's: 7, place the number asked for, does the stream exist?
+-- a function's own questions, after the junction's: 7, place the number asked for, does the stream exist?
 unfoldable pub intergreenVerdict : Junction → ℕ → ℕ → Verdict
 intergreenVerdict j from to = ask (exists j from) 7 from (ask (exists j to) 7 to Passed)
 

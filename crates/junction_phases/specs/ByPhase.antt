@@ -36,7 +36,7 @@ raised number p x y l before range e =
           rw (q, getD-set-other l (p - 1) i y 0 other, before .each i low) (sym (max-eq-left zero-le)));
     }
 
--- the largest figures, where a loop that counts up begins and turns
+-- the largest figures of none, and of one number more
 module _ (figure : ℕ → ℕ → ℕ) where
   pub by-phase-none : ByPhase (λ f. largestOf (figure f) 0) (replicate 6 0)
   by-phase-none =

@@ -63,8 +63,8 @@ phaseAfter count f = cond (ltb f count) (f + 1) 1
 unfoldable pub nextPhase : Junction → ℕ → ℕ
 nextPhase j f = phaseAfter (phaseCount j) f
 
--- M of a phase: the largest entry from its streams to those of the next, at least 1 (house). A pair without a zone has entry 0, so the
--- zones' pairs are all
+-- M of a phase: the largest entry from its streams to those of the next, at least 1 (house). A pair without a zone has entry 0, so
+-- only the zones' pairs count
 unfoldable pub entryBetween : Junction → ℕ → ℕ → ℕ → ℕ → ℕ
 entryBetween j f g n m = cond (isIn j f n && isIn j g m) (pairEntry j n m) 0
 

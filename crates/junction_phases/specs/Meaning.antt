@@ -2,11 +2,11 @@
 use Prim.Native.Nat.{ℕ, _+_, _-_, _≤_, _<_, zero-le}
 use native.Mathlib.Nat.{le-refl, le-antisymm, le-trans, le-max-left, le-max-right, max-le, min-eq-left, add-sub-cancel}
 use native.Mathlib.Omega.{arith}
-use mathlib.Core.Bool.{Bool, true, _&&_, cond, false≢true}
+use mathlib.Core.Bool.{Bool, true, false, _&&_, cond, false≢true}
 use mathlib.Core.Logic.{_↔_}
 use mathlib.Core.Path.{_≡_, refl, sym, _∙_, ap}
 use lib.Dec.{eqb}
-use borrow.Author.Tests.{eq-eqb, eqb-true}
+use borrow.Author.Tests.{leb-false, lt-leb, eq-eqb, eqb-true}
 use Rattle.laws.specs.Largest.{largest-at-most}
 use Rattle.laws.specs.Ranges.{Between}
 use Rattle.laws.specs.Tests.{by-test, both, both-left, both-right}
@@ -14,7 +14,7 @@ use Rattle.junction.specs.declared.Junction.{Junction}
 use Rattle.questions.specs.Questions.{streamNumbered, numbered-at, zoneAt, zoneNumbered, zone-numbered-at}
 use Rattle.reading.specs.Taken.{UsedPhase, Taken}
 use Rattle.junction_figures.specs.Figures.{forward, backward, zoneEntry, pairEntry, pair-least, streamNeed, streamRatio}
-use Rattle.junction_phases.specs.JunctionPhases.{Sought, Number, Cars, Ratio, Need, isIn, carIn, figure, largest, phaseCount, entryBetween, zoneFigure, phaseEntry}
+use Rattle.junction_phases.specs.JunctionPhases.{Sought, Number, Slow, Cars, Ratio, Need, isSlow, isIn, carIn, figure, largest, phaseCount, slow, entryBetween, zoneFigure, phaseEntry}
 
 -- a number that counts only where a test passes
 only-at-most : (b : Bool) (v x : ℕ) → (cond b v 0 ≤ x) ↔ (b ≡ true → v ≤ x)
@@ -35,6 +35,16 @@ module _ (j : Junction) where
         λ h n r. let there : n - 1 + 1 ≡ n = omega arith in rw there at (each .0 h (n - 1) (omega arith)),
         λ h. each .1 (λ i low. h (i + 1) (omega arith)),
       )
+
+  -- (32) gives the first length where no stream is a pedestrian or a tram, else (33)
+  pub slow-none : (slow j ≡ false) ↔ ((n : ℕ) → Between 1 (j .held .streams) n → isSlow (streamNumbered j n .kind) ≡ false)
+  unfolding slow figure
+  slow-none = (
+    λ e n r. by-test (isSlow (streamNumbered j n .kind))
+        (λ is. absurd (omega (arith, rw is at (largest-least Slow 0 .0 (omega (arith, leb-false 1 (largest j Slow) e)) n r))))
+        (λ no. no),
+    λ none. lt-leb 1 (largest j Slow) (omega (arith, largest-least Slow 0 .1 (λ n r. rw (none n r) (le-refl 0)))),
+  )
 
   -- of a figure that counts only where a test passes
   largest-only : (what : Sought) (b : ℕ → Bool) (v : ℕ → ℕ) → ((n : ℕ) → figure j what n ≡ cond (b n) (v n) 0) → (x : ℕ)

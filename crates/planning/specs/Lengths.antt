@@ -16,7 +16,6 @@ use Rattle.phases.specs.Slots.{slotAt}
 use Rattle.phases.specs.declared.Slot.{Slot}
 use Rattle.junction_phases.specs.JunctionPhases.{phasesAt}
 use Rattle.junction_phases.specs.Meaning.{count-phases}
-use Rattle.junction_phases.specs.Placed.{few-phases}
 use Rattle.junction_phases.specs.Right.{phases-right}
 use Rattle.rules.specs.Rules.{needMet, capacityMet, zoneMet, rulesVerdict}
 use Rattle.planning.specs.Planning.{planAt, works}
@@ -27,11 +26,7 @@ pub record Small (slot : Slot) : Type 0 where
   pub green : slot .green ≤ 180
 
 module _ (j : Junction) (taken : Taken j) (t : ℕ) where
-  -- each stream's phase has one of the six places
-  pub stream-phase : (n : ℕ) → Between 1 (j .held .streams) n → Between 1 6 (streamNumbered j n .phase)
-  stream-phase n w = let f = count-phases j taken n w in omega (arith, few-phases j)
-
-  -- and lies within a length that is possible
+  -- each stream's phase lies within a length that is possible
   pub small : possible (phasesAt j t) t ≡ true → t ≤ 180 → (n : ℕ) → Between 1 (j .held .streams) n
       → Small (slotAt (phasesAt j t) (sharing (phasesAt j t) t) (streamNumbered j n .phase - 1))
   unfolding phasesAt

@@ -3,14 +3,14 @@ use Prim.Native.Nat.{ℕ, _+_, _-_, _≤_, _<_}
 use native.Mathlib.Omega.{arith}
 use mathlib.Core.Bool.{true}
 use mathlib.Core.Path.{_≡_}
-use lib.ListN.{length, replicate}
+use lib.ListN.{replicate}
 use Rattle.laws.specs.Filled.{filled-at}
 use Rattle.laws.specs.Ranges.{Between}
 use Rattle.junction.specs.declared.Junction.{Junction}
 use Rattle.questions.specs.Questions.{streamNumbered}
 use Rattle.reading.specs.Taken.{Taken}
 use Rattle.phases.specs.Fills.{green-some, start-within}
-use Rattle.phases.specs.Phases.{sharing, greenAt, startAt, phase, possible}
+use Rattle.phases.specs.Phases.{sharing, greenAt, startAt, possible}
 use Rattle.junction_phases.specs.JunctionPhases.{phasesAt}
 use Rattle.junction_phases.specs.Meaning.{count-phases}
 use Rattle.junction_phases.specs.Right.{phases-right}

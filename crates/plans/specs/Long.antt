@@ -53,7 +53,7 @@ module _ (s t : List ℕ) (a : SameStart s t) where
       ∙ sym (due-long s at expected inRange (omega (arith, a .longS)) small)
 
   cycle-same : cycleVerdict t ≡ cycleVerdict s
-  unfolding cycleVerdict cycleExpected numberIn
+  unfolding cycleVerdict cycleExpected
   cycle-same =
       rw (byte-same 0 (omega arith), number-same 1 (omega arith), number-same 3 (omega arith)) (due-same 0 _ _ (omega arith))
 

@@ -67,7 +67,7 @@ module _ (s : List ℕ) where
 
   -- a field passes exactly where it is right and ends within the file
   cycle-passed : (cycleVerdict s ≡ Passed) ↔ (CycleRight s × (5 ≤ length s))
-  unfolding cycleVerdict cycleExpected numberIn fieldEnd
+  unfolding cycleVerdict cycleExpected fieldEnd
   cycle-passed = (
     λ e. let p = due-passed s 0 _ _ .0 e in
         let expected = simp and-eq-true-iff at (p .awaited) in

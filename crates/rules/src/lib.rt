@@ -82,8 +82,9 @@ fn first_unserved(j: Junction, loads: Loads, p: Plan) -> usize
     i
 }
 
-// The first place of a zone whose streams' greens do not keep their entries apart; the number of zones where none is. The entries are worked
-// out zone by zone, so that none is after the first zone that breaks the rule; the loops stay in this function, as in tables::conflicts_of.
+// The first place of a zone whose streams' greens do not keep their entries apart; the number of zones where none is. The entries of
+// a zone are worked out as it is come to, and none after the first zone that breaks the rule; the loops stay in this function, as in
+// tables::conflicts_of.
 fn first_unclear(j: Junction, p: Plan) -> usize
     requires { ⌜ Taken j ⌝ }
     ensures { λ r. ⌜ r ≡ firstFailing (zoneMet j p) (j .held .zones) ⌝ }

@@ -14,11 +14,11 @@ use Rattle.times.specs.Entry.{entry}
 use Rattle.junction.specs.declared.Junction.{Junction}
 use Rattle.junction.specs.declared.Zone.{Zone}
 use Rattle.questions.specs.Blank.{noStream, noZone}
-use Rattle.questions.specs.Questions.{streamNumbered, zoneAt}
+use Rattle.questions.specs.Questions.{streamNumbered}
 use Rattle.reading.specs.Taken.{Taken, ZoneRight}
 use Rattle.junction_figures.specs.Figures.{forward, backward, zoneEntry, pairEntry}
 use Rattle.tables.specs.Places.{number-place, zone-place, zone-right}
-use Rattle.tables.specs.Tables.{conflictOf, conflictBy, openedAt, widenedBy}
+use Rattle.tables.specs.Tables.{conflictOf, conflictBy, samePair, openedAt, widenedBy}
 
 -- zone y by the pair of zone z
 module _ (j : Junction) (y z : Zone) (yRight : ZoneRight j y) (zRight : ZoneRight j z) where
@@ -31,24 +31,24 @@ module _ (j : Junction) (y z : Zone) (yRight : ZoneRight j y) (zRight : ZoneRigh
       absurd (omega (arith, yRight .below, zRight .below)))
       (λ e. e)
 
-  ahead-same : (eqb (y .a .stream) (z .a .stream) && eqb (y .b .stream) (z .b .stream)) ≡ true
+  ahead-same : samePair y z ≡ true
       → zoneEntry j (z .a .stream) (z .b .stream) y
       ≡ entry (streamNumbered j (z .a .stream)) (streamNumbered j (z .b .stream)) (y .a .clearing) (y .b .reaching)
   unfolding zoneEntry forward
   ahead-same e = rw e
 
-  behind-same : (eqb (y .a .stream) (z .a .stream) && eqb (y .b .stream) (z .b .stream)) ≡ true
+  behind-same : samePair y z ≡ true
       → zoneEntry j (z .b .stream) (z .a .stream) y
       ≡ entry (streamNumbered j (z .b .stream)) (streamNumbered j (z .a .stream)) (y .b .clearing) (y .a .reaching)
   unfolding zoneEntry forward backward
   behind-same e = rw (crossed, and-comm (eqb (y .b .stream) (z .b .stream)) (eqb (y .a .stream) (z .a .stream)) ∙ e)
 
-  ahead-other : (eqb (y .a .stream) (z .a .stream) && eqb (y .b .stream) (z .b .stream)) ≡ false
+  ahead-other : samePair y z ≡ false
       → zoneEntry j (z .a .stream) (z .b .stream) y ≡ 0
   unfolding zoneEntry forward backward
   ahead-other e = rw (e, and-comm (eqb (y .b .stream) (z .a .stream)) (eqb (y .a .stream) (z .b .stream)) ∙ crossed)
 
-  behind-other : (eqb (y .a .stream) (z .a .stream) && eqb (y .b .stream) (z .b .stream)) ≡ false
+  behind-other : samePair y z ≡ false
       → zoneEntry j (z .b .stream) (z .a .stream) y ≡ 0
   unfolding zoneEntry forward backward
   behind-other e = rw (crossed, and-comm (eqb (y .b .stream) (z .b .stream)) (eqb (y .a .stream) (z .a .stream)) ∙ e)
@@ -66,7 +66,7 @@ module _ (j : Junction) (z : Zone) where
     abbrev here : Zone
     here = getD (j .zones) k noZone
 
-    pub pair-widened : (eqb (here .a .stream) (z .a .stream) && eqb (here .b .stream) (z .b .stream)) ≡ true
+    pub pair-widened : samePair here z ≡ true
         → widenedBy (conflictBy j z k) (getD (j .streams) (z .a .stream - 1) noStream) (getD (j .streams) (z .b .stream - 1) noStream) here
         ≡ conflictBy j z (k + 1)
     pair-widened e =
@@ -74,7 +74,7 @@ module _ (j : Junction) (z : Zone) where
         let yRight = zone-right j taken k low in
         rw (number-place j taken _ (zRight .a .existing), number-place j taken _ (zRight .b .existing), largest-next _ k, largest-next _ k, sym there, ahead-same j _ z yRight zRight e, behind-same j _ z yRight zRight e)
 
-    pub pair-passed : (eqb (here .a .stream) (z .a .stream) && eqb (here .b .stream) (z .b .stream)) ≡ false → conflictBy j z k ≡ conflictBy j z (k + 1)
+    pub pair-passed : samePair here z ≡ false → conflictBy j z k ≡ conflictBy j z (k + 1)
     pair-passed e =
         let there = zone-place j taken k low in
         let yRight = zone-right j taken k low in

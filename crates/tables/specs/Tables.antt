@@ -1,5 +1,7 @@
 -- Figures of a junction's zones and streams, worked out once: each place holds what the annex's definitions give.
 use Prim.Native.Nat.{ℕ, _+_, max}
+use mathlib.Core.Bool.{Bool, _&&_}
+use lib.Dec.{eqb}
 use lib.ListN.{replicate}
 use Rattle.laws.specs.Filled.{filled}
 use Rattle.laws.specs.Largest.{largestOf}
@@ -26,6 +28,10 @@ conflictOf j z =
       ahead = pairEntry j (z .a .stream) (z .b .stream);
       behind = pairEntry j (z .b .stream) (z .a .stream);
     }
+
+-- two zones of the same pair of streams; each zone has its lower stream as a
+abbrev pub samePair : Zone → Zone → Bool
+samePair y z = eqb (y .a .stream) (z .a .stream) && eqb (y .b .stream) (z .b .stream)
 
 -- the entries over the first k zones alone: with no zone looked at they are 0, and a zone of the pair widens them
 abbrev pub conflictBy : Junction → Zone → ℕ → Conflict

@@ -1,9 +1,8 @@
-// What the rules and the search ask of a junction's zones and streams again and again, worked out once.
-ghost use mathlib.Core.Bool.{_&&_};
+// The pair's entries at a zone, and flow, S and y of a stream; and tables of them, worked out once, since the search asks for them at every
+// length.
 ghost use mathlib.Core.Path.{_≡_};
-ghost use lib.Dec.{eqb};
 ghost use Rattle.reading.specs.Taken.{Taken};
-ghost use Rattle.tables.specs.Tables.{noConflict, openedAt, widenedBy, conflictsOf, noLoad, loadBy, loadsOf};
+ghost use Rattle.tables.specs.Tables.{noConflict, samePair, openedAt, widenedBy, conflictsOf, noLoad, loadBy, loadsOf};
 use junction::Junction;
 use junction::Zone;
 use junction_figures::larger;
@@ -47,7 +46,7 @@ fn no_conflict() -> Conflict
 
 // Whether two zones are of the same pair of streams.
 pub fn same_pair(y: Zone, z: Zone) -> bool
-    ensures { λ r. ⌜ r ≡ (eqb (y .a .stream) (z .a .stream) && eqb (y .b .stream) (z .b .stream)) ⌝ }
+    ensures { λ r. ⌜ r ≡ samePair y z ⌝ }
 {
     (y.a.stream == z.a.stream) & (y.b.stream == z.b.stream)
 }

@@ -1,4 +1,5 @@
--- `junction_phases::needs_at` meets its contract: the invariant is that each place has the largest need of the streams passed.
+-- `junction_phases::needs_at` meets its contract: the invariant is that each phase has the largest need of its streams
+-- among those passed.
 use Prim.Native.Nat.{_-_, _≤_}
 use native.Mathlib.Nat.{le-antisymm}
 use native.Mathlib.Omega.{arith}

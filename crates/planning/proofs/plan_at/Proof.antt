@@ -13,8 +13,9 @@ use Rattle.tables.specs.Places.{stream-place}
 use Rattle.phases.specs.Phases.{sharing}
 use Rattle.phases.specs.Slots.{noSlot, slotAt, slot-place}
 use Rattle.junction_phases.specs.JunctionPhases.{phasesAt}
+use Rattle.junction_phases.specs.Tabled.{stream-phases}
 use Rattle.plans.specs.Plans.{noGreen}
-use Rattle.planning.specs.Lengths.{stream-phase, small}
+use Rattle.planning.specs.Lengths.{small}
 use Rattle.planning.specs.Planning.{phaseGreen, planAt}
 use Rattle.planning.proofs.plan_at.Statement.{statement}
 use Rattle.planning.proofs.plan_at.Tie as tie
@@ -48,7 +49,7 @@ place c =
     let s = c .before .before .before .before .before in
     let i = c .before .before .before .loop .i in
     let low = c .before .before .loop-test .taken in
-    rw (stream-place (s .args .t1) (s .pre .0) i low) (stream-phase (s .args .t1) (s .pre .0) (s .args .t) (i + 1) (omega arith))
+    stream-phases (s .args .t1) (s .pre .0) .each i low
 
 cast-green-of : tie.Need-cast-green-of Inv-loop μ-loop
 cast-green-of c = search needs
@@ -70,8 +71,9 @@ slot c =
     let s = c .before .before .before .before .before .before in
     let i = c .before .before .before .before .loop .i in
     let low = c .before .before .before .loop-test .taken in
-    rw (s .pre .1 .1 .0, s .pre .1 .0, stream-place (s .args .t1) (s .pre .0) i low)
-    (slot-place _ _ _ (omega (arith, stream-phase (s .args .t1) (s .pre .0) (s .args .t) (i + 1) (omega arith))))
+    let there = stream-place (s .args .t1) (s .pre .0) i low in
+    let range = rw there at (stream-phases (s .args .t1) (s .pre .0) .each i low) in
+    rw (s .pre .1 .1 .0, s .pre .1 .0, there) (slot-place _ _ _ (omega (arith, range)))
 
 green-of-requires : tie.Need-green-of-requires Inv-loop μ-loop
 green-of-requires c κs =
