@@ -36,7 +36,7 @@ pub fn larger(a: u16, b: u16) -> u16
 }
 
 // The entry at one zone, with n and m the numbers of the two streams; 0 at a zone of other streams.
-pub fn zone_entry(n: usize, m: usize, from: Stream, to: Stream, z: Zone) -> u16
+fn zone_entry(n: usize, m: usize, from: Stream, to: Stream, z: Zone) -> u16
     ensures { λ r. ⌜ r ≡ entryAt n m from to z ⌝ }
 {
     if forward(n, m, z) {

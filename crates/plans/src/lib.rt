@@ -202,7 +202,7 @@ fn plan_size(streams: usize) -> usize
 }
 
 // The byte at a place of the plan file: field 11 has 5 bytes, and each field 12 has 8.
-pub fn plan_byte(p: Plan, k: usize) -> u8
+fn plan_byte(p: Plan, k: usize) -> u8
     ensures { λ r. ⌜ r ≡ planByte p k ⌝ }
 {
     if k < 5 {

@@ -145,7 +145,7 @@ pub fn stream_numbered(j: Junction, n: usize) -> Stream
 }
 
 // The stream at a place, from 0; an empty place past the sixteenth.
-pub fn stream_at(j: Junction, i: usize) -> Stream
+fn stream_at(j: Junction, i: usize) -> Stream
     ensures { λ r. ⌜ r ≡ streamAt j i ⌝ }
 {
     if i < 16 {
