@@ -1,9 +1,10 @@
 #!/bin/sh
-# Runs the programs judge and plan on files, and compares what they write with what they should. Builds them first.
+# Runs the programs judge, plan and intergreens on files, and compares what they write with what they should. What rt has proved and has not
+# changed since is not proved again.
 cd "$(dirname "$0")/.." || exit 1
-work=$(mktemp -d)
+work=$(mktemp -d) || exit 1
 trap 'rm -rf "$work"' EXIT
-rt check judge plan > "$work/log" 2>&1 || { tail -n 20 "$work/log"; exit 1; }
+rt check judge plan intergreens > "$work/log" 2>&1 || { tail -n 20 "$work/log"; exit 1; }
 failed=0
 
 # same NAME EXPECTED-OUTPUT EXPECTED-ERROR COMMAND..: compares standard output and standard error.
@@ -46,12 +47,24 @@ same "one name" '' 'usage: judge JUNCTION-FILE PLAN-FILE\n' $judge $junction
 same "an empty name" '' 'judge: a file name is empty or too long\n' $judge '' $plan
 same "three names" '' 'usage: judge JUNCTION-FILE PLAN-FILE\n' $judge $junction $plan $plan
 
-same "a plan of 20,000 bytes" 'refused 1 0\n' '' sh -c 'head -c 20000 /dev/zero | target/bin/plan'
-same "a plan of nothing" 'refused 8 0\n' '' sh -c 'target/bin/plan < /dev/null'
-same "a plan of a folder" '' 'plan: standard input: Is a directory\n' sh -c 'target/bin/plan < examples'
 for f in examples/*.junction; do
-    target/bin/plan < "$f" > "$work/out"
-    cmp -s "$work/out" "${f%.junction}.txt" || { echo "programs: plan of $f: wrote:"; cat "$work/out"; failed=1; }
+    same "plan of $f" "$(cat "${f%.junction}.txt")\n" '' sh -c "target/bin/plan < $f"
 done
-[ $failed = 0 ] && echo "programs: judge and plan write what they should"
+same "intergreens of the example" "$(cat crates/intergreens/stdout)\n" '' sh -c 'target/bin/intergreens < examples/four_phases.junction'
+same "intergreens of the whole case" 'Intergreen times in s, from the stream that clears (down) to the stream that starts (across)
+         1    2
+    1    -    5
+    2    4    -
+
+Streams
+    1  phase 1  car         needs 8 s   flow 600 E/h counted on day 9000   S 1925 E/h   y 3117 ten-thousandths
+    2  phase 2  pedestrian  needs 6 s\n' '' sh -c 'target/bin/intergreens < examples/whole_case.junction'
+
+for program in plan intergreens; do
+    same "$program of nothing" 'refused 8 0\n' '' sh -c "target/bin/$program < /dev/null"
+    same "$program of 16,384 bytes" 'refused 3 0\n' '' sh -c "head -c 16384 /dev/zero | target/bin/$program"
+    same "$program of 20,000 bytes" 'refused 1 0\n' '' sh -c "head -c 20000 /dev/zero | target/bin/$program"
+    same "$program of a folder" '' "$program: standard input: Is a directory\n" sh -c "target/bin/$program < examples"
+done
+[ $failed = 0 ] && echo "programs: judge, plan and intergreens write what they should"
 exit $failed

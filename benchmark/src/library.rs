@@ -1,25 +1,6 @@
 //! The library's C entries for judging and working out.
 use crate::plain::Refusal;
-
-#[repr(C)]
-struct JudgeAnswer {
-    place: usize,
-    refusal: u8,
-}
-
-#[repr(C)]
-struct PlanAnswer {
-    place: usize,
-    refusal: u8,
-    cycle: u16,
-    tried: u16,
-}
-
-#[link(name = "givendra", kind = "static")]
-extern "C" {
-    fn givendra_judge(junction: *const u8, junction_length: usize, plan: *const u8, plan_length: usize) -> JudgeAnswer;
-    fn givendra_work_out(junction: *const u8, junction_length: usize, buffer: *mut u8, buffer_length: usize) -> PlanAnswer;
-}
+use givendra_sys::{givendra_judge, givendra_work_out};
 
 pub fn judge(junction: &[u8], plan: &[u8]) -> Result<(), Refusal> {
     let answer = unsafe { givendra_judge(junction.as_ptr(), junction.len(), plan.as_ptr(), plan.len()) };

@@ -1,12 +1,13 @@
-//! The text form of the stored test cases: junction files, plan files for the judge, and junction files for the planner.
+//! The text form of the stored test cases.
 //!
-//! An empty line, or one that begins with `#`, is printed as it is. Then, by the sort of case:
-//! - reading: `label: HEX` is a junction file; `label: taken S Z C` with the numbers of streams, zones and counts is
-//!   printed, or `label: refused N P`;
-//! - judging: `= HEX` is the junction file for the lines after it, and prints nothing; `label: HEX` is a plan file;
-//!   `label: accepted` or `label: refused N P` is printed;
-//! - working out: `label: SIZE HEX` is the lent buffer's size and a junction file; the cycle, the tried count and the
-//!   plan file are printed, or `refused N P`, then `kept` where the rest of the buffer is as it was.
+//! An empty line, or one that begins with `#`, is printed as it is. `junction: HEX` is the junction file for the plan files
+//! after it, and prints nothing. Any other line is a case: a word that says what is asked, a label, a colon and what is
+//! asked about. The line up to the colon is printed with the answer:
+//! - `read LABEL: HEX` is a junction file; `taken S Z C` with the numbers of streams, zones and counts is printed, or
+//!   `refused N P`;
+//! - `judge LABEL: HEX` is a plan file; `accepted` or `refused N P` is printed;
+//! - `plan LABEL: SIZE HEX` is the lent buffer's size and a junction file; the cycle, the tried count and the plan file are
+//!   printed, or `refused N P`, then `kept` where the rest of the buffer is as it was.
 //!
 //! Bytes are in lower-case hexadecimal, with or without spaces; `*N` after a byte stands for that byte N times.
 
@@ -58,50 +59,39 @@ pub fn answer(result: Result<(), Refusal>) -> String {
     }
 }
 
-/// The answers to a case file, line by line: `answers` gives what stands after the label, or nothing.
-fn run(stdin: &str, mut answers: impl FnMut(&str, &str) -> Option<String>) -> String {
+/// The answers to a case file, line by line. A word that is not known stops the program.
+pub fn run(stdin: &str) -> String {
     let mut out = String::new();
+    let mut junction = vec![];
     for line in stdin.lines() {
         if line.is_empty() || line.starts_with('#') {
             out += &format!("{line}\n");
-        } else if let Some(hex) = line.strip_prefix('=') {
-            assert_eq!(answers("=", hex), None);
+        } else if let Some(hex) = line.strip_prefix("junction:") {
+            junction = bytes_of(hex);
         } else {
-            let (label, text) = line.split_once(':').expect("a label");
-            out += &format!("{label}: {}\n", answers(label, text).expect("an answer"));
+            let (head, text) = line.split_once(':').expect("a colon");
+            out += &format!("{head}: {}\n", case(head, text, &junction));
         }
     }
     out
 }
 
-/// The answers to cases of reading.
-pub fn run_reading(stdin: &str) -> String {
-    run(stdin, |_, hex| {
-        Some(match read_junction(&bytes_of(hex)) {
-            Ok(j) => format!("taken {} {} {}", j.streams.len(), j.zones.len(), j.counts.len()),
-            Err(r) => answer(Err(r)),
-        })
-    })
+/// The answer to a case, whose first word says what is asked.
+fn case(head: &str, text: &str, junction: &[u8]) -> String {
+    match head.split_once(' ') {
+        Some(("read", _)) => read(&bytes_of(text)),
+        Some(("judge", _)) => answer(judge(junction, &bytes_of(text))),
+        Some(("plan", _)) => planned(text),
+        _ => panic!("not known: {head}"),
+    }
 }
 
-/// The answers to cases of judging.
-pub fn run_judging(stdin: &str) -> String {
-    let mut junction = vec![];
-    run(stdin, |label, hex| {
-        if label == "=" {
-            junction = bytes_of(hex);
-            return None;
-        }
-        Some(answer(judge(&junction, &bytes_of(hex))))
-    })
-}
-
-/// The answers to cases of working out.
-pub fn run_working_out(stdin: &str) -> String {
-    run(stdin, |_, text| {
-        let (size, file) = size_and_file(text);
-        Some(planned(size, &file))
-    })
+/// The reader's answer in words.
+fn read(junction: &[u8]) -> String {
+    match read_junction(junction) {
+        Ok(j) => format!("taken {} {} {}", j.streams.len(), j.zones.len(), j.counts.len()),
+        Err(r) => answer(Err(r)),
+    }
 }
 
 /// The size of the lent buffer and the junction file of a case.
@@ -112,9 +102,10 @@ fn size_and_file(text: &str) -> (usize, Vec<u8>) {
 }
 
 /// The planner's answer in words, with what became of the buffer, which is filled with 0xa5 before.
-fn planned(size: usize, junction: &[u8]) -> String {
+fn planned(text: &str) -> String {
+    let (size, junction) = size_and_file(text);
     let mut buffer = vec![0xa5; size];
-    let (words, written) = match crate::work_out(junction, &mut buffer) {
+    let (words, written) = match crate::work_out(&junction, &mut buffer) {
         Ok(w) => {
             let length = w.plan.to_file().len();
             let hex: String = buffer[..length].iter().map(|b| format!("{b:02x}")).collect();

@@ -1,6 +1,7 @@
 //! The proved library, called through its C entries, against the model.
 mod calls;
 use calls::*;
+use givendra_sys::{JunctionAnswer, PlanAnswer};
 use model::annex::{need as model_need, saturation, y_of, TABLE_3};
 use model::faults::*;
 use model::generate::*;

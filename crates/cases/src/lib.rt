@@ -1,10 +1,106 @@
-// The text of test cases: files written in hexadecimal, one a line, with or without spaces between the bytes; `*N` after a byte stands for
-// that byte N times, and ends at a space.
-ghost use Prim.Native.Nat.{_≤_};
+// The text of test cases, one a line: what is asked and a label up to a colon, then a file in hexadecimal, with or without spaces between
+// the bytes; `*N` after a byte stands for that byte N times, and ends at a space. Answers are printed on standard output.
+ghost use mathlib.Core.Path.{_≡_};
+ghost use Prim.Native.Nat.{_<_, _≤_};
 ghost use lib.ListN.{length};
+use libc::STDOUT_FILENO;
+
+// Room for a case's file.
+pub fn file() -> [u8; 131072]
+    ensures { λ r. ⌜ 131072 ≡ length r ⌝ }
+{
+    [0; 131072]
+}
+
+// The line that begins at a place, without its end.
+pub fn line(text: &[u8], at: usize) -> &[u8]
+    requires { ⌜ at ≤ length (now text) ⌝ }
+{
+    let end = find(text, at, b'\n');
+    &text[at..end]
+}
+
+// The place after that line's end.
+pub fn next_line(text: &[u8], at: usize) -> usize
+    requires { ⌜ at ≤ length (now text) ⌝ }
+    ensures { λ r. ⌜ at < r ⌝ }
+{
+    find(text, at, b'\n') + 1
+}
+
+// Whether a text begins with a word.
+pub fn begins(text: &[u8], word: &[u8]) -> bool {
+    if text.len() < word.len() {
+        return false;
+    }
+    for i in 0..word.len() {
+        if text[i] != word[i] {
+            return false;
+        }
+    }
+    true
+}
+
+// Whether a line is no case: it is empty or a comment.
+pub fn is_comment(line: &[u8]) -> bool {
+    if line.len() == 0 {
+        return true;
+    }
+    line[0] == b'#'
+}
+
+// A line's text up to the colon, with it.
+pub fn head(line: &[u8]) -> &[u8] {
+    let end = past(line, find(line, 0, b':'));
+    &line[0..end]
+}
+
+// A line's text after the colon.
+fn body(line: &[u8]) -> &[u8] {
+    let start = past(line, find(line, 0, b':'));
+    &line[start..]
+}
+
+// Where the number ends that a text begins with, after one space or none.
+fn number_end(text: &[u8]) -> usize
+    ensures { λ r. ⌜ r ≤ length (now (text .entry)) ⌝ }
+{
+    find(text, past(text, 0), b' ')
+}
+
+// The number after a line's colon, or the most that is asked for.
+pub fn number(line: &[u8], most: usize) -> usize
+    ensures { λ r. ⌜ r ≤ most ⌝ }
+{
+    let text = body(line);
+    let end = number_end(text);
+    at_most(decimal(&text[0..end]), most)
+}
+
+fn at_most(n: usize, most: usize) -> usize
+    ensures { λ r. ⌜ r ≤ most ⌝ }
+{
+    if n <= most { n } else { most }
+}
+
+// Puts the bytes after a line's colon into the file and answers how many there are. Bytes beyond the buffer are dropped.
+pub fn fill(line: &[u8], file: &mut [u8]) -> usize
+    ensures { λ r. ⌜ r ≤ length (now (file .entry)) ⌝ }
+{
+    add_words(body(line), file)
+}
+
+// The same with the bytes after a number.
+pub fn fill_after_number(line: &[u8], file: &mut [u8]) -> usize
+    ensures { λ r. ⌜ r ≤ length (now (file .entry)) ⌝ }
+{
+    let text = body(line);
+    let end = number_end(text);
+    add_words(&text[end..], file)
+}
 
 // The first place from `from` on at which a byte stands, or the end.
-pub fn find(s: &[u8], from: usize, wanted: u8) -> usize
+fn find(s: &[u8], from: usize, wanted: u8) -> usize
     requires { ⌜ from ≤ length (now s) ⌝ }
     ensures after { λ r. ⌜ from ≤ r ⌝ }
     ensures within { λ r. ⌜ r ≤ length (now (s .entry)) ⌝ }
@@ -20,7 +116,7 @@ pub fn find(s: &[u8], from: usize, wanted: u8) -> usize
 }
 
 // The place after one, or the end.
-pub fn past(s: &[u8], at: usize) -> usize
+fn past(s: &[u8], at: usize) -> usize
     ensures { λ r. ⌜ r ≤ length (now (s .entry)) ⌝ }
 {
     if at < s.len() {
@@ -29,8 +125,7 @@ pub fn past(s: &[u8], at: usize) -> usize
     s.len()
 }
 
-// Puts a case's bytes into the file and answers how many there are. Bytes beyond the buffer are dropped.
-pub fn fill(bytes: &[u8], file: &mut [u8]) -> usize
+fn add_words(bytes: &[u8], file: &mut [u8]) -> usize
     ensures { λ r. ⌜ r ≤ length (now (file .entry)) ⌝ }
 {
     let mut size: usize = 0;
@@ -113,7 +208,7 @@ fn hex(digit: u8) -> u8
 }
 
 // The number that the digits of a text make, 0 where there are none; of one too large, the first digits alone.
-pub fn decimal(text: &[u8]) -> usize
+fn decimal(text: &[u8]) -> usize
     ensures { λ r. ⌜ r ≤ 10000005 ⌝ }
 {
     let mut n: usize = 0;
@@ -134,4 +229,25 @@ fn with_digit(n: usize, digit: u8) -> usize
         return n * 10 + hex(digit) as usize;
     }
     n
+}
+
+pub fn put(text: &[u8]) {
+    io::write_all(STDOUT_FILENO, text);
+}
+
+// Prints a space and a number.
+pub fn put_number(n: usize) {
+    put(b" ");
+    io::print_decimal(STDOUT_FILENO, n as u64);
+}
+
+// Prints bytes in hexadecimal.
+pub fn put_bytes(bytes: &[u8]) {
+    for i in 0..bytes.len() {
+        put_byte(bytes[i]);
+    }
+}
+
+fn put_byte(byte: u8) {
+    io::print_hex(STDOUT_FILENO, byte as u64, 2);
 }

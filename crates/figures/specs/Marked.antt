@@ -3,15 +3,12 @@ use Prim.Native.Nat.{ℕ}
 use mathlib.Core.Bool.{Bool, true, false}
 use mathlib.Core.List.{List, [], _∷_, map}
 use mathlib.Core.Path.{_≡_, refl}
-use Rattle.laws.specs.Rounding.{up}
-use Rattle.laws.specs.Search.{firstBelow, firstOf}
 use Rattle.streams.specs.declared.Kind.the-variants.{Car, Tram, Pedestrian}
 use Rattle.streams.specs.declared.Stream.{Stream}
-use Rattle.times.specs.Comparison.{belowRoot, rootBelow, ratioRatio, ratioRoot, rootRatio, rootAfter, rootBefore, rootRoot, ratioWithin, rootWithin, within}
-use Rattle.times.specs.Times.{carTime, carLeaving, stopLeaving, tramLeaving, leaving, passing, carReaching, tramReaching, countedReaching, reaching}
-use Rattle.times.specs.Entry.{leastGap, entry}
-use Rattle.flows.specs.Needs.{crossingSpeed, disturbance, pedestrianNeed, kindNeed, needAt}
-use Rattle.flows.specs.Saturation.{table1, listedFrom, straightFlow}
+use Rattle.times.specs.Entry.{entry}
+use Rattle.flows.specs.Needs.{needAt}
+use Rattle.flows.specs.Saturation.{straightFlow}
+use Rattle.worked_values.specs.Computed.{toTimes, toFlows}
 
 -- a car with amber 3, standing, of width 350, with a radius
 car : ℕ → Stream
@@ -67,5 +64,5 @@ figures =
 
 -- each figure is the paper's
 pub every-figure : map (λ (f : Figure). f .value) figures ≡ map (λ (f : Figure). f .paper) figures
-unfolding figures entry leastGap firstBelow firstOf within ratioWithin rootWithin ratioRatio ratioRoot rootRatio rootAfter rootBefore rootRoot belowRoot rootBelow carTime carLeaving stopLeaving tramLeaving leaving passing carReaching tramReaching countedReaching reaching needAt kindNeed pedestrianNeed crossingSpeed disturbance up straightFlow listedFrom table1
+unfolding figures toTimes toFlows
 every-figure = refl

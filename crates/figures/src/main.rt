@@ -1,6 +1,8 @@
 // Prints the annex's tables, document 01's marked figures and the figures of its whole case as the library answers them, to be read
 // against the papers.
 use libc::STDOUT_FILENO;
+use phase_lengths::Phase;
+use phase_lengths::Phases;
 use streams::CarFigures;
 use streams::Kind;
 use streams::PedestrianFigures;
@@ -304,18 +306,36 @@ fn whole_case() {
     let kind = motor.kind;
     if let Kind::Car(figures) = kind {
         let s = flows::saturation_flow(figures);
+        let y = flows::flow_ratio(600, s);
+        let ahead = times::entry(motor, walk, 140, 0);
+        let behind = times::entry(walk, motor, 70, 75);
+        let first = Phase {
+            cars: true,
+            ratio: y,
+            intergreen: ahead as u32,
+            need: flows::need(motor, 50),
+        };
+        let second = Phase {
+            cars: false,
+            ratio: 0,
+            intergreen: behind as u32,
+            need: flows::need(walk, 50),
+        };
         line(b"saturation flow S                         ", s as u64);
+        line(b"flow ratio y in ten-thousandths           ", y as u64);
+        line(b"entry from stream 1 to stream 2           ", ahead as u64);
+        line(b"entry from stream 2 to stream 1           ", behind as u64);
         line(
-            b"flow ratio y in ten-thousandths           ",
-            flows::flow_ratio(600, s) as u64,
+            b"lost time L in s                          ",
+            phase_lengths::lost_time(two_phases(first, second)),
         );
     }
-    line(
-        b"entry from stream 1 to stream 2           ",
-        times::entry(motor, walk, 140, 0) as u64,
-    );
-    line(
-        b"entry from stream 2 to stream 1           ",
-        times::entry(walk, motor, 70, 75) as u64,
-    );
+}
+
+fn two_phases(first: Phase, second: Phase) -> Phases {
+    let none = phase_lengths::no_phase();
+    Phases {
+        count: 2,
+        of: [first, second, none, none, none, none],
+    }
 }

@@ -1,4 +1,5 @@
-// Reads a junction file on standard input and prints its matrix of intergreen times, then each stream's figures; or the refusal.
+// Reads a junction file on standard input and prints its matrix of intergreen times, then each stream's figures; or the refusal. Where
+// standard input cannot be read, it says so on standard error and prints nothing.
 use fields::Verdict;
 use junction::Junction;
 use libc::STDIN_FILENO;
@@ -14,7 +15,20 @@ fn main() {
     // One byte more than a file may have, so that a longer one is refused by the library.
     let mut buffer = [0u8; 16385];
     let n = io::read_full(STDIN_FILENO, &mut buffer);
+    if !at_end(n) {
+        os::fail(b"intergreens: standard input");
+        return;
+    }
     answer(&buffer[0..n]);
+}
+
+// Whether the buffer is full or nothing is left to read.
+fn at_end(size: usize) -> bool {
+    if size == 16385 {
+        return true;
+    }
+    let mut more = [0; 1];
+    libc::read(STDIN_FILENO, &mut more) == 0
 }
 
 fn answer(file: &[u8]) {

@@ -1,4 +1,4 @@
--- The customer's third demand but its last sentence, which speaks of plans that are worked out (working_out/specs/Demand3.antt has the whole).
+-- The customer's third demand but its last sentence, which speaks of plans that are worked out (demands/specs/ThirdDemand.antt has the whole).
 --
 -- For any junction file that is taken and any plan file that is well-formed for it, whoever made it, the judge accepts the plan exactly when
 -- it is acceptable, as Meaning.antt says in the customer's words: each stream has its needed green, each car flow its capacity, and for every

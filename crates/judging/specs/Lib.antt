@@ -3,6 +3,7 @@ pub mod Cycles
 pub mod Demand3
 pub mod FileDays
 pub mod Judgement
+pub mod Letter
 pub mod Long
 pub mod Meaning
 pub mod Numbers

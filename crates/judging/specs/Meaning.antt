@@ -8,7 +8,7 @@ use mathlib.Core.Bool.{true}
 use mathlib.Core.Logic.{_⊎_}
 use mathlib.Core.Path.{_≡_}
 use Rattle.laws.specs.Ranges.{Between}
-use Rattle.times.specs.Comparison.{within}
+use Rattle.exact_times.specs.Numbers.{Within}
 use Rattle.times.specs.Times.{leaving, reaching}
 use Rattle.junction.specs.declared.Junction.{Junction}
 use Rattle.junction.specs.declared.Side.{Side}
@@ -27,12 +27,12 @@ ends p stream k = begins p stream k + greenOf p stream .length
 
 -- the last participant of one side of a zone, whose green ended so many seconds before the other side's green began, leaves the zone no
 -- later than the first of the other side reaches it: leaving time, with the one's clearing distance, at most these seconds plus the
--- reaching time, with the other's reaching distance. (junction_figures/specs/Exact.antt calls this `Clears`; it is written out here so that
--- this file can be read alone.)
+-- reaching time, with the other's reaching distance, as numbers, roots included: `Within` of exact_times/specs/Numbers.antt. (Letter.antt has
+-- the comparison by document 01's letter, and that both are one; junction_figures/specs/Exact.antt calls this `Clears`; it is written out
+-- here so that this file can be read alone.)
 unfoldable pub LeavesInTime : Junction → Side → Side → ℕ → Type 0
 LeavesInTime j earlier later seconds =
-    within (leaving (streamNumbered j (earlier .stream) .kind) (earlier .clearing)) (reaching (streamNumbered j (later .stream) .kind) (later .reaching)) seconds
-    ≡ true
+    Within (leaving (streamNumbered j (earlier .stream) .kind) (earlier .clearing)) (reaching (streamNumbered j (later .stream) .kind) (later .reaching)) seconds
 
 -- the green of one side in its cycle k is the earlier: it ends no later than that of the other side in its cycle m begins; and its last
 -- participant leaves in time

@@ -10,7 +10,8 @@ use borrow.Author.Tests.{leb-true, le-leb, eqb-true}
 use Rattle.laws.specs.Tests.{by-test, both-left, both-right}
 use Rattle.streams.specs.declared.Kind.{Kind}
 use Rattle.streams.specs.declared.Kind.the-variants.{Car, Tram, Pedestrian, Cyclist}
-use Rattle.times.specs.Comparison.{within}
+use Rattle.exact_times.specs.Numbers.{Within}
+use Rattle.exact_times.specs.Streams.{streams-compare}
 use Rattle.times.specs.Entry.{entry}
 use Rattle.times.specs.Least.{Moves, entry-least}
 use Rattle.times.specs.Times.{leaving, reaching}
@@ -24,7 +25,7 @@ use Rattle.junction_figures.specs.Figures.{forward, backward, zoneEntry,
 -- from one side of a zone to the other, that gap is enough
 unfoldable pub Clears : Junction → Side → Side → ℕ → Type 0
 Clears j x y gap =
-    within (leaving (streamNumbered j (x .stream) .kind) (x .clearing)) (reaching (streamNumbered j (y .stream) .kind) (y .reaching)) gap ≡ true
+    Within (leaving (streamNumbered j (x .stream) .kind) (x .clearing)) (reaching (streamNumbered j (y .stream) .kind) (y .reaching)) gap
 
 moves : (k : Kind) → KindRanges k → Moves k
 moves (Car c) r = omega arith
@@ -33,7 +34,7 @@ moves (Pedestrian p) r = omega arith
 moves (Cyclist y) r = tt
 
 module _ (j : Junction) (t : Taken j) where
-  side-moves : (x : Side) → SideRight j x → Moves (streamNumbered j (x .stream) .kind)
+  pub side-moves : (x : Side) → SideRight j x → Moves (streamNumbered j (x .stream) .kind)
   side-moves x r =
       rw (numbered-at j (x .stream) (r .existing .0))
       (moves (streamAt j (x .stream - 1) .kind) (t .fields .streams (x .stream - 1) (omega arith) .figures))
@@ -43,7 +44,8 @@ module _ (j : Junction) (t : Taken j) where
   unfolding Clears
   side-clears x y r gap =
       let same = entry-least (streamNumbered j (x .stream)) (streamNumbered j (y .stream)) (x .clearing) (y .reaching) (side-moves x r) (r .clearing) gap in
-      (λ h. same ∙ le-leb _ _ h, λ e. leb-true _ _ (sym same ∙ e))
+      let numbers = streams-compare (streamNumbered j (x .stream) .kind) (streamNumbered j (y .stream) .kind) (x .clearing) (y .reaching) gap (side-moves x r) in
+      (λ h. numbers .0 (same ∙ le-leb _ _ h), λ e. leb-true _ _ (sym same ∙ numbers .1 e))
 
   -- a zone of streams n and m
   zone-exact : (n m gap : ℕ) (z : Zone) → ZoneRight j z

@@ -10,9 +10,9 @@ use Rattle.streams.specs.declared.Kind.the-variants.{Car, Tram, Pedestrian, Cyc
 use Rattle.junction.specs.declared.Junction.{Junction}
 use Rattle.questions.specs.Questions.{streamNumbered, zoneNumbered, isCar}
 use Rattle.junction_figures.specs.Figures.{pairEntry, streamNeed, streamRatio}
-use Rattle.phases.specs.Phases.{noPhase}
-use Rattle.phases.specs.declared.Phases.{Phases}
-use Rattle.phases.specs.declared.Phase.{Phase}
+use Rattle.phase_lengths.specs.Phases.{noPhase}
+use Rattle.phase_lengths.specs.declared.Phases.{Phases}
+use Rattle.phase_lengths.specs.declared.Phase.{Phase}
 
 -- a figure of each stream whose largest is sought: the number of its phase; 1 for a pedestrian or a tram; of the cars of a phase, 1 for each,
 -- or their flow ratio; of the streams of a phase, the needed green at a cycle

@@ -12,8 +12,8 @@ use Rattle.laws.specs.Tests.{both-right, leb-same}
 use Rattle.junction.specs.declared.Junction.{Junction}
 use Rattle.questions.specs.Questions.{numbered-at}
 use Rattle.reading.specs.Taken.{Taken}
-use Rattle.phases.specs.Phases.{noPhase}
-use Rattle.phases.specs.declared.Phase.{Phase}
+use Rattle.phase_lengths.specs.Phases.{noPhase}
+use Rattle.phase_lengths.specs.declared.Phase.{Phase}
 use Rattle.junction_phases.specs.ByPhase.{ByPhase}
 use Rattle.junction_phases.specs.JunctionPhases.{Cars, Ratio, Need, isIn, carIn, largest, phaseCount, nextPhase, phaseEntry, intergreen, phaseAt, phasesAt}
 use Rattle.junction_phases.specs.Meaning.{ratio-largest, cars-largest}

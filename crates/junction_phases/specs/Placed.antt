@@ -9,8 +9,8 @@ use borrow.Author.Tests.{lt-ltb, ltb-true}
 use Rattle.laws.specs.Filled.{filled, filled-at, filled-past, filled-same}
 use Rattle.laws.specs.Tests.{by-test}
 use Rattle.junction.specs.declared.Junction.{Junction}
-use Rattle.phases.specs.Phases.{noPhase, phase}
-use Rattle.phases.specs.declared.Phase.{Phase}
+use Rattle.phase_lengths.specs.Phases.{noPhase, phase}
+use Rattle.phase_lengths.specs.declared.Phase.{Phase}
 use Rattle.junction_phases.specs.JunctionPhases.{Need, largest, phaseCount, phaseAt, phasesAt, withNeed}
 
 module _ (j : Junction) where

@@ -17,8 +17,8 @@ use Rattle.questions.specs.Questions.{streamAt, streamNumbered, numbered-at, is
 use Rattle.reading.specs.Taken.{Taken}
 use Rattle.junction_figures.specs.Figures.{streamFlow, streamRatio}
 use Rattle.junction_figures.specs.Positive.{stream-ratio-least}
-use Rattle.phases.specs.Fills.{Right}
-use Rattle.phases.specs.Phases.{phase, term, sum, ratioSum}
+use Rattle.phase_greens.specs.Fills.{Right}
+use Rattle.phase_lengths.specs.Phases.{phase, term, sum, ratioSum}
 use Rattle.junction_phases.specs.JunctionPhases.{Cars, Ratio, isIn, carIn, largest, phaseCount, intergreen, phaseAt, phasesAt}
 use Rattle.junction_phases.specs.Meaning.{ratio-largest, cars-largest, count-phases}
 use Rattle.junction_phases.specs.Placed.{few-phases, phase-placed, phase-empty}

@@ -13,8 +13,8 @@ ghost use Rattle.junction_phases.specs.JunctionPhases.{isSlow, slow as s
 ghost use Rattle.junction_phases.specs.Made.{phaseWith};
 ghost use Rattle.junction_phases.specs.Tabled.{needsBy, ratiosBy, entriesBy, onward as onwardBy, StreamPhases, ZonesPhases};
 use junction::Junction;
-use phases::Phase;
-use phases::Phases;
+use phase_lengths::Phase;
+use phase_lengths::Phases;
 use streams::Kind;
 use streams::Stream;
 use tables::Conflicts;
@@ -183,7 +183,7 @@ pub fn phases_at(j: Junction, loads: Loads, conflicts: Conflicts, t: u16) -> Pha
     let needs = needs_at(streams, n, t);
     let mut q = Phases {
         count,
-        of: [phases::no_phase(); 6],
+        of: [phase_lengths::no_phase(); 6],
     };
     let mut i: usize = 0;
     while i < count {
@@ -204,11 +204,11 @@ pub fn at_cycle(j: Junction, q: Phases, t: u16) -> Phases
     let count = q.count;
     let mut now = Phases {
         count,
-        of: [phases::no_phase(); 6],
+        of: [phase_lengths::no_phase(); 6],
     };
     let mut i: usize = 0;
     while i < count {
-        now.of[i] = with_need(phases::phase_at(q, i), needs[i]);
+        now.of[i] = with_need(phase_lengths::phase_at(q, i), needs[i]);
         i += 1;
     }
     now

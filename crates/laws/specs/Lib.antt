@@ -4,6 +4,5 @@ pub mod Ranges
 pub mod Rounding
 pub mod Search
 pub mod Shares
-pub mod Squares
 pub mod Sums
 pub mod Tests

@@ -10,10 +10,10 @@ use Rattle.fields.specs.declared.Verdict.the-variants.{Passed}
 use Rattle.junction.specs.declared.Junction.{Junction}
 use Rattle.questions.specs.Questions.{streamNumbered}
 use Rattle.reading.specs.Taken.{Taken}
-use Rattle.phases.specs.Fills.{start-within}
-use Rattle.phases.specs.Phases.{sharing, possible}
-use Rattle.phases.specs.Slots.{slotAt}
-use Rattle.phases.specs.declared.Slot.{Slot}
+use Rattle.phase_greens.specs.Fills.{start-within}
+use Rattle.phase_greens.specs.Greens.{sharing, possible}
+use Rattle.phase_greens.specs.Slots.{slotAt}
+use Rattle.phase_greens.specs.declared.Slot.{Slot}
 use Rattle.junction_phases.specs.JunctionPhases.{phasesAt}
 use Rattle.junction_phases.specs.Meaning.{count-phases}
 use Rattle.junction_phases.specs.Right.{phases-right}

@@ -9,8 +9,8 @@ use Rattle.laws.specs.Ranges.{Between}
 use Rattle.junction.specs.declared.Junction.{Junction}
 use Rattle.questions.specs.Questions.{streamNumbered}
 use Rattle.reading.specs.Taken.{Taken}
-use Rattle.phases.specs.Fills.{green-some, start-within}
-use Rattle.phases.specs.Phases.{sharing, greenAt, startAt, possible}
+use Rattle.phase_greens.specs.Fills.{green-some, start-within}
+use Rattle.phase_greens.specs.Greens.{sharing, greenAt, startAt, possible}
 use Rattle.junction_phases.specs.JunctionPhases.{phasesAt}
 use Rattle.junction_phases.specs.Meaning.{count-phases}
 use Rattle.junction_phases.specs.Right.{phases-right}

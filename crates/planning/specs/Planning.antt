@@ -7,11 +7,12 @@ use Rattle.laws.specs.Search.{firstBelow}
 use Rattle.fields.specs.Verdict.{isRefused}
 use Rattle.junction.specs.declared.Junction.{Junction}
 use Rattle.questions.specs.Questions.{streamNumbered}
-use Rattle.phases.specs.Phases.{ratioSum, lostTime, firstLength, sharing, possible}
-use Rattle.phases.specs.Slots.{slotAt}
-use Rattle.phases.specs.declared.Phases.{Phases}
-use Rattle.phases.specs.declared.Sharing.{Sharing}
-use Rattle.phases.specs.declared.Slot.{Slot}
+use Rattle.phase_lengths.specs.Phases.{ratioSum, lostTime, firstLength}
+use Rattle.phase_greens.specs.Greens.{sharing, possible}
+use Rattle.phase_greens.specs.Slots.{slotAt}
+use Rattle.phase_lengths.specs.declared.Phases.{Phases}
+use Rattle.phase_greens.specs.declared.Sharing.{Sharing}
+use Rattle.phase_greens.specs.declared.Slot.{Slot}
 use Rattle.junction_phases.specs.JunctionPhases.{slow, phasesAt}
 use Rattle.plans.specs.declared.Green.{Green}
 use Rattle.plans.specs.declared.Plan.{Plan}

@@ -10,7 +10,7 @@ use Rattle.laws.specs.Ranges.{Between}
 use Rattle.laws.specs.Search.{first-found, first-next, first-out}
 use Rattle.laws.specs.Tests.{by-test}
 use Rattle.junction.specs.declared.Junction.{Junction}
-use Rattle.phases.specs.Phases.{possible}
+use Rattle.phase_greens.specs.Greens.{possible}
 use Rattle.junction_phases.specs.JunctionPhases.{phasesAt}
 use Rattle.plans.specs.declared.Plan.{Plan}
 use Rattle.rules.specs.Rules.{needMet, capacityMet, zoneMet}

@@ -4,15 +4,15 @@ ghost use mathlib.Core.Path.{_≡_};
 ghost use Prim.Native.Nat.{_≤_};
 ghost use Rattle.reading.specs.Taken.{Taken};
 ghost use Rattle.tables.specs.Tables.{loadsOf, conflictsOf};
-ghost use Rattle.phases.specs.Phases.{sharing, possible as possibleAt};
-ghost use Rattle.phases.specs.Slots.{slotsOf};
+ghost use Rattle.phase_greens.specs.Greens.{sharing, possible as possibleAt};
+ghost use Rattle.phase_greens.specs.Slots.{slotsOf};
 ghost use Rattle.junction_phases.specs.JunctionPhases.{phasesAt};
 ghost use Rattle.planning.specs.Planning.{slotGreen, planAt, found as foundFrom, firstTried};
 ghost use Rattle.planning.specs.Lengths.{Small};
 use junction::Junction;
-use phases::Phases;
-use phases::Slot;
-use phases::Slots;
+use phase_greens::Slot;
+use phase_greens::Slots;
+use phase_lengths::Phases;
 use plans::Green;
 use plans::Plan;
 use tables::Conflicts;
@@ -30,10 +30,10 @@ fn first_tried(j: Junction, q: Phases) -> u16
     requires phases { ⌜ q ≡ phasesAt j 0 ⌝ }
     ensures { λ r. ⌜ r ≡ firstTried j ⌝ }
 {
-    phases::first_length(
+    phase_lengths::first_length(
         junction_phases::slow(j),
-        phases::ratio_sum(q),
-        phases::lost_time(q),
+        phase_lengths::ratio_sum(q),
+        phase_lengths::lost_time(q),
     )
 }
 
@@ -91,8 +91,8 @@ fn search(j: Junction, loads: Loads, conflicts: Conflicts, fixed: Phases, first:
         }
         tried += 1;
         let q = junction_phases::at_cycle(j, fixed, t);
-        let slots = phases::slots_of(q, phases::shared_out(q, t));
-        if !phases::possible(q, slots, t) {
+        let slots = phase_greens::slots_of(q, phase_greens::shared_out(q, t));
+        if !phase_greens::possible(q, slots, t) {
             t += 1;
             continue 'search;
         }

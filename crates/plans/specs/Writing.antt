@@ -3,14 +3,14 @@
 use Prim.Native.Nat.{ℕ, _+_, _-_, _*_, _/_, _%_, _≤_}
 use mathlib.Core.Bool.{Bool, true, _&&_, cond}
 use mathlib.Core.List.{List, [], _∷_}
-use mathlib.Core.Path.{_≡_, refl}
+use mathlib.Core.Path.{_≡_}
 use lib.Dec.{leb, ltb}
-use lib.ListN.{length, getD, replicate}
+use lib.ListN.{length, getD}
 use borrow.Author.Tests.{leb-true}
 use Rattle.laws.specs.Filled.{filled, filled-length, filled-past}
 use Rattle.laws.specs.Tests.{by-test, both-left, both-right}
 use Rattle.fields.specs.Bytes.{byteAt}
-use Rattle.plans.specs.Plans.{noGreen, greenOf}
+use Rattle.plans.specs.Plans.{greenOf}
 use Rattle.plans.specs.declared.Green.{Green}
 use Rattle.plans.specs.declared.Plan.{Plan}
 
@@ -56,11 +56,3 @@ module _ (p : Plan) (streams : ℕ) (buffer : List ℕ) where
   unfolding written byteAt
   written-later k past =
       by-test (hasRoom streams (length buffer)) (λ e. rw e (filled-past (planByte p) buffer (planSize streams) k 0 past)) (λ e. rw e)
-
--- the plan of the whole case, a cycle of 50 s with greens of 35 s and 6 s, in a buffer of 22 bytes
-wholeCase : Plan
-wholeCase = record { cycle = 50; greens = record { start = 0; length = 35 } ∷ record { start = 40; length = 6 } ∷ replicate 14 noGreen }
-
-whole-case : written wholeCase 2 (replicate 22 255) ≡ 17 ∷ 0 ∷ 2 ∷ 0 ∷ 50 ∷ 18 ∷ 0 ∷ 5 ∷ 1 ∷ 0 ∷ 0 ∷ 0 ∷ 35 ∷ 18 ∷ 0 ∷ 5 ∷ 2 ∷ 0 ∷ 40 ∷ 0 ∷ 6 ∷ 255 ∷ []
-unfolding wholeCase written hasRoom planSize filled planByte cycleByte greenByte greenOf
-whole-case = refl

@@ -2,6 +2,5 @@ pub mod Bounds
 pub mod Comparison
 pub mod Entry
 pub mod Least
-pub mod Meaning
 pub mod Monotone
 pub mod Times

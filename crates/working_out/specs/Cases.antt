@@ -12,7 +12,7 @@ use Rattle.laws.specs.Tests.{by-test}
 use Rattle.fields.specs.Verdict.{ask-passed, isRefused, firstRefusal, first-refused, first-passed}
 use Rattle.fields.specs.declared.Verdict.the-variants.{Passed}
 use Rattle.junction.specs.declared.Junction.{Junction}
-use Rattle.phases.specs.First.{first-length-range}
+use Rattle.phase_lengths.specs.First.{first-length-range}
 use Rattle.plans.specs.Writing.{hasRoom, written}
 use Rattle.planning.specs.Planning.{ratios, firstTried, planAt, works, cycleFrom, cycle, found}
 use Rattle.reading.specs.Reading.{reading}

@@ -16,7 +16,7 @@ use Rattle.reading.specs.Taken.{Taken, taken}
 use Rattle.plans.specs.Inverse.{planFile, written-file, written-passes, written-cycle, written-green}
 use Rattle.plans.specs.Plans.{planVerdict}
 use Rattle.plans.specs.Writing.{planSize, has-room}
-use Rattle.phases.specs.Phases.{possible}
+use Rattle.phase_greens.specs.Greens.{possible}
 use Rattle.junction_phases.specs.JunctionPhases.{phasesAt}
 use Rattle.rules.specs.Rules.{rulesVerdict}
 use Rattle.rules.specs.Same.{rules-same}

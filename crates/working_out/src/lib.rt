@@ -11,7 +11,7 @@ ghost use Rattle.working_out.specs.WorkingOut.{calculation, junctionWork
 use fields::Verdict;
 use fields::ask;
 use junction::Junction;
-use phases::Phases;
+use phase_lengths::Phases;
 
 // What was worked out: `Passed` with the cycle in seconds and how many lengths were tried; or a refusal, with 0 for both.
 pub struct Worked {
@@ -49,7 +49,7 @@ fn work_out_junction(j: Junction, out: &mut [u8]) -> Worked
     let q = junction_phases::phases_at(j, loads, conflicts, 0);
     let found = planning::find_cycle(j, loads, conflicts, q);
     let room = plans::has_room(j.held.streams, out.len());
-    let verdict = calculated(phases::ratio_sum(q), found.cycle, room);
+    let verdict = calculated(phase_lengths::ratio_sum(q), found.cycle, room);
     if fields::refused(verdict) {
         return Worked {
             verdict,
@@ -82,7 +82,7 @@ fn write_plan(j: Junction, q: Phases, t: u16, out: &mut [u8])
     ensures { λ _. ⌜ now (out .exit) ≡ written (planAt j t) (j .held .streams) (now (out .entry)) ⌝ }
 {
     let now = junction_phases::at_cycle(j, q, t);
-    let slots = phases::slots_of(now, phases::shared_out(now, t));
+    let slots = phase_greens::slots_of(now, phase_greens::shared_out(now, t));
     let p = planning::plan_at(j, now, slots, t);
     plans::write(p, j.held.streams, out);
 }

@@ -1,68 +1,11 @@
 //! The library's C entries, and the lent memory that they are called with: it is compared before and after each call.
 #![allow(dead_code)]
+use givendra_sys::*;
 use model::cases::text_of;
 use model::junction::Count;
 use model::random::Random;
 use model::Refusal;
 use std::fmt::Debug;
-
-// ---- the C declarations
-
-#[repr(C)]
-#[derive(Clone, Copy, PartialEq, Eq, Debug)]
-pub struct JudgeAnswer {
-    pub place: usize,
-    pub refusal: u8,
-}
-
-#[repr(C)]
-#[derive(Clone, Copy, PartialEq, Eq, Debug)]
-pub struct PlanAnswer {
-    pub place: usize,
-    pub refusal: u8,
-    pub cycle: u16,
-    pub tried: u16,
-}
-
-#[repr(C)]
-#[derive(Clone, Copy, PartialEq, Eq, Debug)]
-pub struct JunctionAnswer {
-    pub place: usize,
-    pub refusal: u8,
-    pub design_day: u16,
-    pub streams: usize,
-    pub zones: usize,
-    pub counts: usize,
-}
-
-#[repr(C)]
-#[derive(Clone, Copy, PartialEq, Eq, Debug)]
-pub struct Figure {
-    pub place: usize,
-    pub refusal: u8,
-    pub value: u32,
-}
-
-#[repr(C)]
-#[derive(Clone, Copy, PartialEq, Eq, Debug)]
-pub struct CountRecord {
-    pub stream: u8,
-    pub count_day: u16,
-    pub file_day: u16,
-    pub flow: u16,
-}
-
-#[link(name = "givendra", kind = "static")]
-extern "C" {
-    fn givendra_judge(junction: *const u8, junction_length: usize, plan: *const u8, plan_length: usize) -> JudgeAnswer;
-    fn givendra_work_out(junction: *const u8, junction_length: usize, buffer: *mut u8, buffer_length: usize) -> PlanAnswer;
-    fn givendra_read_junction(junction: *const u8, junction_length: usize) -> JunctionAnswer;
-    fn givendra_intergreen(junction: *const u8, junction_length: usize, from: usize, to: usize) -> Figure;
-    fn givendra_need(junction: *const u8, junction_length: usize, stream: usize, cycle: u16) -> Figure;
-    fn givendra_saturation_flow(junction: *const u8, junction_length: usize, stream: usize) -> Figure;
-    fn givendra_flow_ratio(junction: *const u8, junction_length: usize, stream: usize) -> Figure;
-    fn givendra_newest_count(list: *const CountRecord, list_length: usize, stream: usize, design_day: u16) -> Figure;
-}
 
 // ---- lent memory
 

@@ -4,12 +4,10 @@ use Rattle.counts.specs.Newest.{rankDay}
 use Rattle.counts.proofs.day.Statement.{statement}
 use Rattle.counts.proofs.day.Tie as tie
 
-cast-result : tie.Need-cast-result
-cast-result c = search needs
-
 returns : tie.Need-returns
 unfolding rankDay
 returns c = search needs
 
 pub day-spec : {M : Type 1} → statement M
-day-spec = tie.close (tie.spec cast-result returns)
+day-spec = tie.close
+    (tie.spec (λ c. search needs) returns)

@@ -9,4 +9,5 @@ unfolding usable
 returns c = search needs
 
 pub usable-spec : {M : Type 1} → statement M
-usable-spec = tie.close (tie.spec returns)
+usable-spec = tie.close
+    (tie.spec returns)

@@ -5,9 +5,6 @@ use Rattle.fields.specs.Bytes.{byteAt, byteAt-past}
 use Rattle.fields.proofs.byte.Statement.{statement}
 use Rattle.fields.proofs.byte.Tie as tie
 
-shared-slice-read-result : tie.Need-shared-slice-read-result
-shared-slice-read-result c = search needs
-
 returns : tie.Need-returns
 unfolding byteAt
 returns c = refl
@@ -16,4 +13,5 @@ returns-2 : tie.Need-returns-2
 returns-2 c = sym (byteAt-past _ _ (c .if1 .left))
 
 pub byte-spec : {M : Type 1} → statement M
-byte-spec = tie.close (tie.spec shared-slice-read-result returns returns-2)
+byte-spec = tie.close
+    (tie.spec (λ c. search needs) returns returns-2)

@@ -4,12 +4,10 @@ use Rattle.fields.specs.Bytes.{byteIn}
 use Rattle.fields.proofs.byte_in.Statement.{statement}
 use Rattle.fields.proofs.byte_in.Tie as tie
 
-byte-requires : tie.Need-byte-requires
-byte-requires c κs = search needs
-
 returns : tie.Need-returns
 unfolding byteIn
 returns c = simp (c .byte .ensures)
 
 pub byte-in-spec : {M : Type 1} → statement M
-byte-in-spec = tie.close (tie.spec byte-requires returns)
+byte-in-spec = tie.close
+    (tie.spec (λ c κs. search needs) returns)

@@ -3,17 +3,9 @@ use borrow.Author.Needs.{needs}
 use Rattle.fields.proofs.first_refusal.Statement.{statement}
 use Rattle.fields.proofs.first_refusal.Tie as tie
 
-enum-told : tie.Need-enum-told
-enum-told c = search needs
-
-enum-known-v : tie.Need-enum-known-v
-enum-known-v c = search needs
-
-returns : tie.Need-returns
-returns c = search needs
-
 returns-2 : tie.Need-returns-2
 returns-2 c = simp (c .before .v .given .1)
 
 pub first-refusal-spec : {M : Type 1} → statement M
-first-refusal-spec = tie.close (tie.spec enum-told enum-known-v returns returns-2)
+first-refusal-spec = tie.close
+    (tie.spec (λ c. search needs) (λ c. search needs) (λ c. search needs) returns-2)

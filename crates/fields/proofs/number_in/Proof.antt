@@ -4,12 +4,10 @@ use Rattle.fields.specs.Bytes.{numberIn}
 use Rattle.fields.proofs.number_in.Statement.{statement}
 use Rattle.fields.proofs.number_in.Tie as tie
 
-number-requires : tie.Need-number-requires
-number-requires c κs = search needs
-
 returns : tie.Need-returns
 unfolding numberIn
 returns c = simp (c .number .ensures)
 
 pub number-in-spec : {M : Type 1} → statement M
-number-in-spec = tie.close (tie.spec number-requires returns)
+number-in-spec = tie.close
+    (tie.spec (λ c κs. search needs) returns)

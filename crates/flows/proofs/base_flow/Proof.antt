@@ -7,12 +7,6 @@ use Rattle.flows.specs.Saturation.{baseFlow}
 use Rattle.flows.proofs.base_flow.Statement.{statement}
 use Rattle.flows.proofs.base_flow.Tie as tie
 
-straight-flow-requires : tie.Need-straight-flow-requires
-straight-flow-requires c κs = search needs
-
-turning-flow-requires : tie.Need-turning-flow-requires
-turning-flow-requires c κs = search needs
-
 returns : tie.Need-returns
 unfolding baseFlow
 returns c =
@@ -32,4 +26,5 @@ returns-2 c =
     }
 
 pub base-flow-spec : {M : Type 1} → statement M
-base-flow-spec = tie.close (tie.spec straight-flow-requires turning-flow-requires returns returns-2)
+base-flow-spec = tie.close
+    (tie.spec (λ c κs. search needs) (λ c κs. search needs) returns returns-2)

@@ -18,4 +18,5 @@ unfolding conditionsPercent
 returns-3 c = record { same = simp (ne-eqb _ _ (c .before .if1 .left), ne-eqb _ _ (c .if2 .left)); small = search needs }
 
 pub conditions-percent-spec : {M : Type 1} → statement M
-conditions-percent-spec = tie.close (tie.spec returns returns-2 returns-3)
+conditions-percent-spec = tie.close
+    (tie.spec returns returns-2 returns-3)

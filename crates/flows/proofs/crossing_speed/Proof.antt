@@ -25,4 +25,5 @@ returns-3 c =
     record { same = simp (le-ltb 120 (p .crossing) (omega arith), lt-leb (p .hourly) 120 (omega arith)); small = search needs }
 
 pub crossing-speed-spec : {M : Type 1} → statement M
-crossing-speed-spec = tie.close (tie.spec returns returns-2 returns-3)
+crossing-speed-spec = tie.close
+    (tie.spec returns returns-2 returns-3)

@@ -13,4 +13,5 @@ unfolding disturbance
 returns-2 c = record { same = simp (c .if1 .left); small = search needs }
 
 pub disturbance-spec : {M : Type 1} → statement M
-disturbance-spec = tie.close (tie.spec returns returns-2)
+disturbance-spec = tie.close
+    (tie.spec returns returns-2)

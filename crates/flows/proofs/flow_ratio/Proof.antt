@@ -9,15 +9,10 @@ returns : tie.Need-returns
 unfolding flowRatio
 returns c = simp (eq-eqb _ _ (c .if1 .taken))
 
-mul-div-up : tie.Need-mul-div-up
-mul-div-up c = search needs
-
-div-up-requires : tie.Need-div-up-requires
-div-up-requires c κs = search needs
-
 returns-2 : tie.Need-returns-2
 unfolding flowRatio
 returns-2 c = simp (ne-eqb _ _ (c .before .if1 .left), c .div-up .ensures)
 
 pub flow-ratio-spec : {M : Type 1} → statement M
-flow-ratio-spec = tie.close (tie.spec returns mul-div-up div-up-requires returns-2)
+flow-ratio-spec = tie.close
+    (tie.spec returns (λ c. search needs) (λ c κs. search needs) returns-2)

@@ -4,15 +4,10 @@ use Rattle.flows.specs.Saturation.{gradientPercent}
 use Rattle.flows.proofs.gradient_percent.Statement.{statement}
 use Rattle.flows.proofs.gradient_percent.Tie as tie
 
-mul-above : tie.Need-mul-above
-mul-above c = search needs
-
-above-requires : tie.Need-above-requires
-above-requires c κs = search needs
-
 returns : tie.Need-returns
 unfolding gradientPercent
 returns c = record { same = search needs; small = search needs }
 
 pub gradient-percent-spec : {M : Type 1} → statement M
-gradient-percent-spec = tie.close (tie.spec mul-above above-requires returns)
+gradient-percent-spec = tie.close
+    (tie.spec (λ c. search needs) (λ c κs. search needs) returns)

@@ -4,24 +4,6 @@ use Rattle.flows.specs.Needs.{needAt, kindNeed}
 use Rattle.flows.proofs.need.Statement.{statement}
 use Rattle.flows.proofs.need.Tie as tie
 
-enum-told : tie.Need-enum-told
-enum-told c = search needs
-
-enum-known-kind : tie.Need-enum-known-kind
-enum-known-kind c = search needs
-
-tram-need-requires : tie.Need-tram-need-requires
-tram-need-requires c κs = search needs
-
-enum-known-kind-2 : tie.Need-enum-known-kind-2
-enum-known-kind-2 c = search needs
-
-pedestrian-need-requires : tie.Need-pedestrian-need-requires
-pedestrian-need-requires c κs = search needs
-
-enum-told-2 : tie.Need-enum-told-2
-enum-told-2 c = search needs
-
 returns : tie.Need-returns
 unfolding needAt kindNeed
 returns c = simp (c .enum-told .given .1)
@@ -41,14 +23,5 @@ returns-4 c = simp (c .enum-told2 .given .1)
 pub need-spec : {M : Type 1} → statement M
 need-spec =
     tie.close
-    (tie.spec
-    enum-told
-    enum-known-kind
-    tram-need-requires
-    enum-known-kind-2
-    pedestrian-need-requires
-    enum-told-2
-    returns
-    returns-2
-    returns-3
-    returns-4)
+    (tie.spec (λ c. search needs) (λ c. search needs) (λ c κs. search needs) (λ c. search needs) (λ c κs. search needs)
+    (λ c. search needs) returns returns-2 returns-3 returns-4)

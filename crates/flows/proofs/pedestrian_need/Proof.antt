@@ -13,32 +13,11 @@ added : {d s : ℕ} → d < 4 → s < 17 → d * s ≤ 48
 unfolding IsLe
 added hd hs = grw (bound, le-pred-of-lt hd, le-pred-of-lt hs) (le-by-compare _ _ tt)
 
-crossing-speed-requires : tie.Need-crossing-speed-requires
-crossing-speed-requires c κs = search needs
-
-cast-way : tie.Need-cast-way
-cast-way c = search needs
-
-disturbance-requires : tie.Need-disturbance-requires
-disturbance-requires c κs = search needs
-
 add-way : tie.Need-add-way
 add-way c = omega (arith, added (c .disturbance .ensures .small) (c .before .before .crossing-speed .ensures .small))
 
 mul-way : tie.Need-mul-way
 mul-way c = omega (arith, add-way c .fits)
-
-div-up-requires : tie.Need-div-up-requires
-div-up-requires c κs = search needs
-
-cast-larger : tie.Need-cast-larger
-cast-larger c = search needs
-
-larger-requires : tie.Need-larger-requires
-larger-requires c κs = search needs
-
-cast-result : tie.Need-cast-result
-cast-result c = search needs
 
 returns : tie.Need-returns
 unfolding pedestrianNeed
@@ -53,14 +32,5 @@ returns c =
 pub pedestrian-need-spec : {M : Type 1} → statement M
 pedestrian-need-spec =
     tie.close
-    (tie.spec
-    crossing-speed-requires
-    cast-way
-    disturbance-requires
-    mul-way
-    add-way
-    div-up-requires
-    cast-larger
-    larger-requires
-    cast-result
-    returns)
+    (tie.spec (λ c κs. search needs) (λ c. search needs) (λ c κs. search needs) mul-way add-way (λ c κs. search needs)
+    (λ c. search needs) (λ c κs. search needs) (λ c. search needs) returns)

@@ -7,21 +7,6 @@ use Rattle.flows.specs.Saturation.{saturationFlow}
 use Rattle.flows.proofs.saturation_flow.Statement.{statement}
 use Rattle.flows.proofs.saturation_flow.Tie as tie
 
-base-flow-requires : tie.Need-base-flow-requires
-base-flow-requires c κs = search needs
-
-cast-base : tie.Need-cast-base
-cast-base c = search needs
-
-gradient-percent-requires : tie.Need-gradient-percent-requires
-gradient-percent-requires c κs = search needs
-
-conditions-percent-requires : tie.Need-conditions-percent-requires
-conditions-percent-requires c κs = search needs
-
-turn-divisor-requires : tie.Need-turn-divisor-requires
-turn-divisor-requires c κs = search needs
-
 mul-flow : tie.Need-mul-flow
 mul-flow c =
     omega (
@@ -40,12 +25,6 @@ mul-flow-3 c =
 
 mul-flow-2 : tie.Need-mul-flow-2
 mul-flow-2 c = omega (arith, mul-flow-3 c .fits)
-
-mul-flow-4 : tie.Need-mul-flow-4
-mul-flow-4 c = search needs
-
-mul-flow-5 : tie.Need-mul-flow-5
-mul-flow-5 c = search needs
 
 div-flow : tie.Need-div-flow
 div-flow c =
@@ -78,17 +57,5 @@ returns c =
 pub saturation-flow-spec : {M : Type 1} → statement M
 saturation-flow-spec =
     tie.close
-    (tie.spec
-    base-flow-requires
-    cast-base
-    gradient-percent-requires
-    conditions-percent-requires
-    turn-divisor-requires
-    mul-flow
-    mul-flow-2
-    mul-flow-3
-    mul-flow-4
-    mul-flow-5
-    div-flow
-    cast-result
-    returns)
+    (tie.spec (λ c κs. search needs) (λ c. search needs) (λ c κs. search needs) (λ c κs. search needs) (λ c κs. search needs)
+    mul-flow mul-flow-2 mul-flow-3 (λ c. search needs) (λ c. search needs) div-flow cast-result returns)

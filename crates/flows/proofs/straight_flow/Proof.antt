@@ -15,9 +15,6 @@ use Rattle.flows.proofs.straight_flow.Tie as tie
 arm : {v : ℕ} (n lo : ℕ) → everyOf (λ w. eqb v (straightFlow w)) n lo ≡ true → {w : ℕ} → lo ≤ w → w < lo + n → v ≡ straightFlow w
 arm {v} n lo t {w} a b = eqb-true v (straightFlow w) (every-at (λ w. eqb v (straightFlow w)) n lo t w a b)
 
-mul-result : tie.Need-mul-result
-mul-result c = search needs
-
 returns : tie.Need-returns
 returns c = arm 1 540 (unfold straightFlow listedFrom table1 in refl) (omega arith) (omega arith)
 
@@ -64,19 +61,5 @@ returns-14 c = simp (lt-leb (c .before .before .before .before .before .before .
 pub straight-flow-spec : {M : Type 1} → statement M
 straight-flow-spec =
     tie.close
-    (tie.spec
-    mul-result
-    returns
-    returns-2
-    returns-3
-    returns-4
-    returns-5
-    returns-6
-    returns-7
-    returns-8
-    returns-9
-    returns-10
-    returns-11
-    returns-12
-    returns-13
-    returns-14)
+    (tie.spec (λ c. search needs) returns returns-2 returns-3 returns-4 returns-5 returns-6 returns-7 returns-8 returns-9
+    returns-10 returns-11 returns-12 returns-13 returns-14)

@@ -6,9 +6,6 @@ use Rattle.flows.specs.Meaning.{tram-once, tram-twice}
 use Rattle.flows.proofs.tram_need.Statement.{statement}
 use Rattle.flows.proofs.tram_need.Tie as tie
 
-longest-cycle-requires : tie.Need-longest-cycle-requires
-longest-cycle-requires c κs = search needs
-
 returns : tie.Need-returns
 returns c = sym (tram-once (c .before .before .args .cycle) (c .before .before .args .t) (omega arith))
 
@@ -16,4 +13,5 @@ returns-2 : tie.Need-returns-2
 returns-2 c = sym (tram-twice (c .before .before .args .cycle) (c .before .before .args .t) (omega arith))
 
 pub tram-need-spec : {M : Type 1} → statement M
-tram-need-spec = tie.close (tie.spec longest-cycle-requires returns returns-2)
+tram-need-spec = tie.close
+    (tie.spec (λ c κs. search needs) returns returns-2)

@@ -4,12 +4,6 @@ use Rattle.givendra.specs.Answers.{figure}
 use Rattle.givendra.proofs.figure_of.Statement.{statement}
 use Rattle.givendra.proofs.figure_of.Tie as tie
 
-enum-told : tie.Need-enum-told
-enum-told c = search needs
-
-enum-known-v : tie.Need-enum-known-v
-enum-known-v c = search needs
-
 returns : tie.Need-returns
 unfolding figure
 returns c = simp (c .enum-told .given .1)
@@ -19,4 +13,5 @@ unfolding figure
 returns-2 c = simp (c .before .v .given .1)
 
 pub figure-of-spec : {M : Type 1} → statement M
-figure-of-spec = tie.close (tie.spec enum-told enum-known-v returns returns-2)
+figure-of-spec = tie.close
+    (tie.spec (λ c. search needs) (λ c. search needs) returns returns-2)

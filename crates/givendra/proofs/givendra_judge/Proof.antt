@@ -5,15 +5,6 @@ use Rattle.givendra.specs.Answers.{judgeAnswer}
 use Rattle.givendra.proofs.givendra_judge.Statement.{statement}
 use Rattle.givendra.proofs.givendra_judge.Tie as tie
 
-judge-requires : tie.Need-judge-requires
-judge-requires c κs = search needs
-
-enum-told : tie.Need-enum-told
-enum-told c = search needs
-
-enum-known-verdict : tie.Need-enum-known-verdict
-enum-known-verdict c = search needs
-
 returns : tie.Need-returns
 unfolding judgeAnswer
 returns c = simp (sym (c .before .before .judge .ensures), c .enum-told .given .1)
@@ -24,4 +15,5 @@ returns-2 c = simp (sym (c .before .before .before .judge .ensures), c .before .
 
 pub givendra-judge-spec : {M : Type 1} → statement M
 givendra-judge-spec =
-    tie.close (tie.spec judge-requires enum-told enum-known-verdict returns returns-2)
+    tie.close
+    (tie.spec (λ c κs. search needs) (λ c. search needs) (λ c. search needs) returns returns-2)

@@ -5,15 +5,6 @@ use Rattle.givendra.specs.Answers.{junctionAnswer}
 use Rattle.givendra.proofs.givendra_read_junction.Statement.{statement}
 use Rattle.givendra.proofs.givendra_read_junction.Tie as tie
 
-read-requires : tie.Need-read-requires
-read-requires c κs = search needs
-
-enum-told : tie.Need-enum-told
-enum-told c = search needs
-
-enum-known-verdict : tie.Need-enum-known-verdict
-enum-known-verdict c = search needs
-
 returns : tie.Need-returns
 unfolding junctionAnswer
 returns c = simp (sym (c .before .before .before .read .ensures), c .enum-told .given .1)
@@ -24,4 +15,5 @@ returns-2 c = simp (sym (c .before .before .before .before .read .ensures), c .b
 
 pub givendra-read-junction-spec : {M : Type 1} → statement M
 givendra-read-junction-spec =
-    tie.close (tie.spec read-requires enum-told enum-known-verdict returns returns-2)
+    tie.close
+    (tie.spec (λ c κs. search needs) (λ c. search needs) (λ c. search needs) returns returns-2)

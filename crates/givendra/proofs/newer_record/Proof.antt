@@ -4,12 +4,10 @@ use Rattle.givendra.specs.LentList.{recordRank}
 use Rattle.givendra.proofs.newer_record.Statement.{statement}
 use Rattle.givendra.proofs.newer_record.Tie as tie
 
-newer-requires : tie.Need-newer-requires
-newer-requires c κs = search needs
-
 returns : tie.Need-returns
 unfolding recordRank
 returns c = c .newer .ensures
 
 pub newer-record-spec : {M : Type 1} → statement M
-newer-record-spec = tie.close (tie.spec newer-requires returns)
+newer-record-spec = tie.close
+    (tie.spec (λ c κs. search needs) returns)

@@ -8,12 +8,6 @@ use Rattle.judging.specs.Judgement.{planJudgement, judgement}
 use Rattle.judging.proofs.judge.Statement.{statement}
 use Rattle.judging.proofs.judge.Tie as tie
 
-read-requires : tie.Need-read-requires
-read-requires c κs = search needs
-
-refused-requires : tie.Need-refused-requires
-refused-requires c κs = search needs
-
 returns : tie.Need-returns
 unfolding judgement
 returns c = let e = c .before .before .read .ensures in ap (λ r. r .verdict) e ∙ sym (first-refused _ _ (ap (λ r. isRefused (r .verdict)) (sym e) ∙ sym (c .before .refused .ensures) ∙ c .if1 .taken))
@@ -27,4 +21,5 @@ returns-2 c = let e = c .before .before .before .read .ensures in let a = c .bef
 
 pub judge-spec : {M : Type 1} → statement M
 judge-spec =
-    tie.close (tie.spec read-requires refused-requires returns judge-plan-requires returns-2)
+    tie.close
+    (tie.spec (λ c κs. search needs) (λ c κs. search needs) returns judge-plan-requires returns-2)

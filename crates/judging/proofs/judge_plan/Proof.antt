@@ -7,21 +7,9 @@ use Rattle.judging.specs.Judgement.{planJudgement}
 use Rattle.judging.proofs.judge_plan.Statement.{statement}
 use Rattle.judging.proofs.judge_plan.Tie as tie
 
-verdict-requires : tie.Need-verdict-requires
-verdict-requires c κs = search needs
-
-refused-requires : tie.Need-refused-requires
-refused-requires c κs = search needs
-
 returns : tie.Need-returns
 unfolding planJudgement
 returns c = let e = c .before .before .verdict .ensures in e ∙ sym (first-refused _ _ (ap isRefused (sym e) ∙ sym (c .before .refused .ensures) ∙ c .if1 .taken))
-
-plan-of-requires : tie.Need-plan-of-requires
-plan-of-requires c κs = search needs
-
-verdict-requires-2 : tie.Need-verdict-requires-2
-verdict-requires-2 c κs = search needs
 
 returns-2 : tie.Need-returns-2
 unfolding planJudgement
@@ -30,10 +18,4 @@ returns-2 c = let e = c .before .before .before .before .verdict .ensures in let
 pub judge-plan-spec : {M : Type 1} → statement M
 judge-plan-spec =
     tie.close
-    (tie.spec
-    verdict-requires
-    refused-requires
-    returns
-    plan-of-requires
-    verdict-requires-2
-    returns-2)
+    (tie.spec (λ c κs. search needs) (λ c κs. search needs) returns (λ c κs. search needs) (λ c κs. search needs) returns-2)

@@ -4,12 +4,10 @@ use Rattle.junction.specs.Layout.{countInRange}
 use Rattle.junction.proofs.count_in_range.Statement.{statement}
 use Rattle.junction.proofs.count_in_range.Tie as tie
 
-number-in-requires : tie.Need-number-in-requires
-number-in-requires c κs = search needs
-
 returns : tie.Need-returns
 unfolding countInRange
 returns c = simp (c .number-in .ensures)
 
 pub count-in-range-spec : {M : Type 1} → statement M
-count-in-range-spec = tie.close (tie.spec number-in-requires returns)
+count-in-range-spec = tie.close
+    (tie.spec (λ c κs. search needs) returns)

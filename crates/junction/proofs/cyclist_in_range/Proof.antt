@@ -4,15 +4,10 @@ use Rattle.junction.specs.Layout.{cyclistInRange}
 use Rattle.junction.proofs.cyclist_in_range.Statement.{statement}
 use Rattle.junction.proofs.cyclist_in_range.Tie as tie
 
-byte-in-requires : tie.Need-byte-in-requires
-byte-in-requires c κs = search needs
-
-byte-in-requires-2 : tie.Need-byte-in-requires-2
-byte-in-requires-2 c κs = search needs
-
 returns : tie.Need-returns
 unfolding cyclistInRange
 returns c = simp (c .byte-in2 .ensures, c .before .byte-in .ensures)
 
 pub cyclist-in-range-spec : {M : Type 1} → statement M
-cyclist-in-range-spec = tie.close (tie.spec byte-in-requires byte-in-requires-2 returns)
+cyclist-in-range-spec = tie.close
+    (tie.spec (λ c κs. search needs) (λ c κs. search needs) returns)

@@ -4,12 +4,10 @@ use Rattle.junction.specs.Layout.{cyclistOf}
 use Rattle.junction.proofs.cyclist_of.Statement.{statement}
 use Rattle.junction.proofs.cyclist_of.Tie as tie
 
-byte-requires : tie.Need-byte-requires
-byte-requires c κs = search needs
-
 returns : tie.Need-returns
 unfolding cyclistOf
 returns c = simp (c .byte .ensures)
 
 pub cyclist-of-spec : {M : Type 1} → statement M
-cyclist-of-spec = tie.close (tie.spec byte-requires returns)
+cyclist-of-spec = tie.close
+    (tie.spec (λ c κs. search needs) returns)

@@ -4,12 +4,10 @@ use Rattle.junction.specs.Layout.{designDay}
 use Rattle.junction.proofs.design_day.Statement.{statement}
 use Rattle.junction.proofs.design_day.Tie as tie
 
-number-requires : tie.Need-number-requires
-number-requires c κs = search needs
-
 returns : tie.Need-returns
 unfolding designDay
 returns c = simp (c .number .ensures)
 
 pub design-day-spec : {M : Type 1} → statement M
-design-day-spec = tie.close (tie.spec number-requires returns)
+design-day-spec = tie.close
+    (tie.spec (λ c κs. search needs) returns)

@@ -11,18 +11,9 @@ either-way : {A : Type 0} (t : Bool) (a : A) → cond t a a ≡ a
 either-way true a = refl
 either-way false a = refl
 
-byte-requires : tie.Need-byte-requires
-byte-requires c κs = search needs
-
-car-of-requires : tie.Need-car-of-requires
-car-of-requires c κs = search needs
-
 returns : tie.Need-returns
 unfolding kindOf
 returns c = simp (c .car-of .ensures, ← c .before .before .byte .ensures, eq-eqb _ _ (c .before .if1 .taken))
-
-tram-of-requires : tie.Need-tram-of-requires
-tram-of-requires c κs = search needs
 
 returns-2 : tie.Need-returns-2
 unfolding kindOf
@@ -34,9 +25,6 @@ returns-2 c =
       ne-eqb _ _ (c .before .before .if1 .left),
     )
 
-pedestrian-of-requires : tie.Need-pedestrian-of-requires
-pedestrian-of-requires c κs = search needs
-
 returns-3 : tie.Need-returns-3
 unfolding kindOf
 returns-3 c =
@@ -47,9 +35,6 @@ returns-3 c =
       ne-eqb _ _ (c .before .before .if2 .left),
       ne-eqb _ _ (c .before .before .before .if1 .left),
     )
-
-cyclist-of-requires : tie.Need-cyclist-of-requires
-cyclist-of-requires c κs = search needs
 
 returns-4 : tie.Need-returns-4
 unfolding kindOf
@@ -66,13 +51,5 @@ returns-4 c =
 pub kind-of-spec : {M : Type 1} → statement M
 kind-of-spec =
     tie.close
-    (tie.spec
-    byte-requires
-    car-of-requires
-    returns
-    tram-of-requires
-    returns-2
-    pedestrian-of-requires
-    returns-3
-    cyclist-of-requires
-    returns-4)
+    (tie.spec (λ c κs. search needs) (λ c κs. search needs) returns (λ c κs. search needs) returns-2 (λ c κs. search needs)
+    returns-3 (λ c κs. search needs) returns-4)

@@ -4,24 +4,6 @@ use Rattle.junction.specs.Layout.{pedestrianInRange}
 use Rattle.junction.proofs.pedestrian_in_range.Statement.{statement}
 use Rattle.junction.proofs.pedestrian_in_range.Tie as tie
 
-byte-in-requires : tie.Need-byte-in-requires
-byte-in-requires c κs = search needs
-
-byte-in-requires-2 : tie.Need-byte-in-requires-2
-byte-in-requires-2 c κs = search needs
-
-number-in-requires : tie.Need-number-in-requires
-number-in-requires c κs = search needs
-
-number-in-requires-2 : tie.Need-number-in-requires-2
-number-in-requires-2 c κs = search needs
-
-byte-in-requires-3 : tie.Need-byte-in-requires-3
-byte-in-requires-3 c κs = search needs
-
-byte-in-requires-4 : tie.Need-byte-in-requires-4
-byte-in-requires-4 c κs = search needs
-
 returns : tie.Need-returns
 unfolding pedestrianInRange
 returns c =
@@ -37,11 +19,5 @@ returns c =
 pub pedestrian-in-range-spec : {M : Type 1} → statement M
 pedestrian-in-range-spec =
     tie.close
-    (tie.spec
-    byte-in-requires
-    byte-in-requires-2
-    number-in-requires
-    number-in-requires-2
-    byte-in-requires-3
-    byte-in-requires-4
-    returns)
+    (tie.spec (λ c κs. search needs) (λ c κs. search needs) (λ c κs. search needs) (λ c κs. search needs) (λ c κs. search needs)
+    (λ c κs. search needs) returns)

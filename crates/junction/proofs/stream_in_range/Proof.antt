@@ -5,18 +5,9 @@ use Rattle.junction.specs.Layout.{streamInRange}
 use Rattle.junction.proofs.stream_in_range.Statement.{statement}
 use Rattle.junction.proofs.stream_in_range.Tie as tie
 
-byte-requires : tie.Need-byte-requires
-byte-requires c κs = search needs
-
-car-in-range-requires : tie.Need-car-in-range-requires
-car-in-range-requires c κs = search needs
-
 returns : tie.Need-returns
 unfolding streamInRange
 returns c = simp (c .car-in-range .ensures, ← c .before .before .byte .ensures, eq-eqb _ _ (c .before .if1 .taken))
-
-tram-in-range-requires : tie.Need-tram-in-range-requires
-tram-in-range-requires c κs = search needs
 
 returns-2 : tie.Need-returns-2
 unfolding streamInRange
@@ -28,9 +19,6 @@ returns-2 c =
       ne-eqb _ _ (c .before .before .if1 .left),
     )
 
-pedestrian-in-range-requires : tie.Need-pedestrian-in-range-requires
-pedestrian-in-range-requires c κs = search needs
-
 returns-3 : tie.Need-returns-3
 unfolding streamInRange
 returns-3 c =
@@ -41,9 +29,6 @@ returns-3 c =
       ne-eqb _ _ (c .before .before .if2 .left),
       ne-eqb _ _ (c .before .before .before .if1 .left),
     )
-
-cyclist-in-range-requires : tie.Need-cyclist-in-range-requires
-cyclist-in-range-requires c κs = search needs
 
 returns-4 : tie.Need-returns-4
 unfolding streamInRange
@@ -71,14 +56,5 @@ returns-5 c =
 pub stream-in-range-spec : {M : Type 1} → statement M
 stream-in-range-spec =
     tie.close
-    (tie.spec
-    byte-requires
-    car-in-range-requires
-    returns
-    tram-in-range-requires
-    returns-2
-    pedestrian-in-range-requires
-    returns-3
-    cyclist-in-range-requires
-    returns-4
-    returns-5)
+    (tie.spec (λ c κs. search needs) (λ c κs. search needs) returns (λ c κs. search needs) returns-2 (λ c κs. search needs)
+    returns-3 (λ c κs. search needs) returns-4 returns-5)

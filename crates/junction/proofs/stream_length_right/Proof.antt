@@ -9,9 +9,6 @@ returns : tie.Need-returns
 unfolding streamLengthRight
 returns c = simp (eq-eqb _ _ (c .if1 .taken))
 
-byte-requires : tie.Need-byte-requires
-byte-requires c κs = search needs
-
 returns-2 : tie.Need-returns-2
 unfolding streamLengthRight
 returns-2 c = simp (← c .before .byte .ensures, eq-eqb _ _ (c .if2 .taken), ne-eqb _ _ (c .before .before .if1 .left))
@@ -63,4 +60,5 @@ returns-6 c =
 
 pub stream-length-right-spec : {M : Type 1} → statement M
 stream-length-right-spec =
-    tie.close (tie.spec returns byte-requires returns-2 returns-3 returns-4 returns-5 returns-6)
+    tie.close
+    (tie.spec returns (λ c κs. search needs) returns-2 returns-3 returns-4 returns-5 returns-6)

@@ -4,18 +4,6 @@ use Rattle.junction.specs.Layout.{tramInRange}
 use Rattle.junction.proofs.tram_in_range.Statement.{statement}
 use Rattle.junction.proofs.tram_in_range.Tie as tie
 
-byte-in-requires : tie.Need-byte-in-requires
-byte-in-requires c κs = search needs
-
-byte-in-requires-2 : tie.Need-byte-in-requires-2
-byte-in-requires-2 c κs = search needs
-
-number-in-requires : tie.Need-number-in-requires
-number-in-requires c κs = search needs
-
-byte-in-requires-3 : tie.Need-byte-in-requires-3
-byte-in-requires-3 c κs = search needs
-
 returns : tie.Need-returns
 unfolding tramInRange
 returns c =
@@ -29,4 +17,4 @@ returns c =
 pub tram-in-range-spec : {M : Type 1} → statement M
 tram-in-range-spec =
     tie.close
-    (tie.spec byte-in-requires byte-in-requires-2 number-in-requires byte-in-requires-3 returns)
+    (tie.spec (λ c κs. search needs) (λ c κs. search needs) (λ c κs. search needs) (λ c κs. search needs) returns)

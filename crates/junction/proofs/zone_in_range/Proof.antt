@@ -4,18 +4,6 @@ use Rattle.junction.specs.Layout.{zoneInRange}
 use Rattle.junction.proofs.zone_in_range.Statement.{statement}
 use Rattle.junction.proofs.zone_in_range.Tie as tie
 
-number-in-requires : tie.Need-number-in-requires
-number-in-requires c κs = search needs
-
-number-in-requires-2 : tie.Need-number-in-requires-2
-number-in-requires-2 c κs = search needs
-
-number-in-requires-3 : tie.Need-number-in-requires-3
-number-in-requires-3 c κs = search needs
-
-number-in-requires-4 : tie.Need-number-in-requires-4
-number-in-requires-4 c κs = search needs
-
 returns : tie.Need-returns
 unfolding zoneInRange
 returns c =
@@ -29,9 +17,4 @@ returns c =
 pub zone-in-range-spec : {M : Type 1} → statement M
 zone-in-range-spec =
     tie.close
-    (tie.spec
-    number-in-requires
-    number-in-requires-2
-    number-in-requires-3
-    number-in-requires-4
-    returns)
+    (tie.spec (λ c κs. search needs) (λ c κs. search needs) (λ c κs. search needs) (λ c κs. search needs) returns)

@@ -4,24 +4,6 @@ use Rattle.junction.specs.Layout.{zoneOf}
 use Rattle.junction.proofs.zone_of.Statement.{statement}
 use Rattle.junction.proofs.zone_of.Tie as tie
 
-byte-requires : tie.Need-byte-requires
-byte-requires c κs = search needs
-
-number-requires : tie.Need-number-requires
-number-requires c κs = search needs
-
-number-requires-2 : tie.Need-number-requires-2
-number-requires-2 c κs = search needs
-
-byte-requires-2 : tie.Need-byte-requires-2
-byte-requires-2 c κs = search needs
-
-number-requires-3 : tie.Need-number-requires-3
-number-requires-3 c κs = search needs
-
-number-requires-4 : tie.Need-number-requires-4
-number-requires-4 c κs = search needs
-
 returns : tie.Need-returns
 unfolding zoneOf
 returns c =
@@ -37,11 +19,5 @@ returns c =
 pub zone-of-spec : {M : Type 1} → statement M
 zone-of-spec =
     tie.close
-    (tie.spec
-    byte-requires
-    number-requires
-    number-requires-2
-    byte-requires-2
-    number-requires-3
-    number-requires-4
-    returns)
+    (tie.spec (λ c κs. search needs) (λ c κs. search needs) (λ c κs. search needs) (λ c κs. search needs) (λ c κs. search needs)
+    (λ c κs. search needs) returns)

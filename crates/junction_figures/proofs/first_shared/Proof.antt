@@ -17,19 +17,10 @@ loop-holds : tie.Need-loop-holds Inv-loop μ-loop
 unfolding firstShared
 loop-holds c = (omega arith, refl)
 
-shares-at-requires : tie.Need-shares-at-requires Inv-loop μ-loop
-shares-at-requires c κs = tt
-
 returns : tie.Need-returns Inv-loop μ-loop
 returns c =
     let l = c .before .before .before .loop in
     sym (first-found _ _ (l .i) (c .before .before .loop-test .taken) (sym (c .before .shares-at .ensures) ∙ c .if1 .taken)) ∙ l .inv .1
-
-add-i : tie.Need-add-i Inv-loop μ-loop
-add-i c = omega arith
-
-loop-less : tie.Need-loop-less Inv-loop μ-loop
-loop-less c = omega arith
 
 loop-again : tie.Need-loop-again Inv-loop μ-loop
 loop-again c =
@@ -44,4 +35,4 @@ returns-2 c = sym (first-out _ _ (c .before .loop .i) (c .loop-test .left)) ∙ 
 pub first-shared-spec : {M : Type 1} → statement M
 first-shared-spec =
     tie.close
-    (tie.spec Inv-loop μ-loop loop-holds shares-at-requires returns add-i loop-less loop-again returns-2)
+    (tie.spec Inv-loop μ-loop loop-holds (λ c κs. tt) returns (λ c. omega arith) (λ c. omega arith) loop-again returns-2)

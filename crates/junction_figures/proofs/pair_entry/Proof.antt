@@ -19,40 +19,16 @@ Inv-loop n m j zones from to most₀ i₀ most i =
 abbrev μ-loop : tie.MeasureT-loop
 μ-loop n m j zones from to most₀ i₀ most i = j .held .zones - i
 
-stream-numbered-requires : tie.Need-stream-numbered-requires Inv-loop μ-loop
-stream-numbered-requires c κs = tt
-
-stream-numbered-requires-2 : tie.Need-stream-numbered-requires-2 Inv-loop μ-loop
-stream-numbered-requires-2 c κs = tt
-
 loop-holds : tie.Need-loop-holds Inv-loop μ-loop
 loop-holds c = (omega arith, sym (largest-none _))
 
-mul-z : tie.Need-mul-z Inv-loop μ-loop
-mul-z c = search needs
-
 element-copy-out-z : tie.Need-element-copy-out-z Inv-loop μ-loop
 element-copy-out-z c = c .if1 .taken
-
-no-zone-requires : tie.Need-no-zone-requires Inv-loop μ-loop
-no-zone-requires c κs = tt
 
 here : (c : tie.Joined1 Inv-loop μ-loop) → c .if1 .z ≡ zoneAt (c .before .before .before .before .before .args .t1) (c .before .before .loop .i)
 unfolding zoneAt
 here c =
     ⊎-elim (λ w. w .2 ∙ simp (lt-ltb _ _ (w .0 .taken))) (λ w. w .2 ∙ simp (le-ltb _ _ (w .0 .left), w .1 .ensures)) (c .if1 .came)
-
-zone-entry-requires : tie.Need-zone-entry-requires Inv-loop μ-loop
-zone-entry-requires c κs = tt
-
-larger-requires : tie.Need-larger-requires Inv-loop μ-loop
-larger-requires c κs = tt
-
-add-i : tie.Need-add-i Inv-loop μ-loop
-add-i c = omega arith
-
-loop-less : tie.Need-loop-less Inv-loop μ-loop
-loop-less c = omega arith
 
 loop-again : tie.Need-loop-again Inv-loop μ-loop
 unfolding zoneEntry
@@ -71,18 +47,5 @@ returns c =
 pub pair-entry-spec : {M : Type 1} → statement M
 pair-entry-spec =
     tie.close
-    (tie.spec
-    Inv-loop
-    μ-loop
-    stream-numbered-requires
-    stream-numbered-requires-2
-    loop-holds
-    mul-z
-    element-copy-out-z
-    no-zone-requires
-    zone-entry-requires
-    larger-requires
-    add-i
-    loop-less
-    loop-again
-    returns)
+    (tie.spec Inv-loop μ-loop (λ c κs. tt) (λ c κs. tt) loop-holds (λ c. search needs) element-copy-out-z (λ c κs. tt)
+    (λ c κs. tt) (λ c κs. tt) (λ c. omega arith) (λ c. omega arith) loop-again returns)

@@ -5,21 +5,6 @@ use Rattle.junction_figures.specs.Figures.{kindSaturation}
 use Rattle.junction_figures.proofs.saturation.Statement.{statement}
 use Rattle.junction_figures.proofs.saturation.Tie as tie
 
-enum-known-kind : tie.Need-enum-known-kind
-enum-known-kind c = search needs
-
-saturation-flow-requires : tie.Need-saturation-flow-requires
-saturation-flow-requires c κs = search needs
-
-enum-told : tie.Need-enum-told
-enum-told c = search needs
-
-enum-told-2 : tie.Need-enum-told-2
-enum-told-2 c = search needs
-
-enum-told-3 : tie.Need-enum-told-3
-enum-told-3 c = search needs
-
 returns : tie.Need-returns
 returns c = simp (c .before .before .kind .given .1, c .saturation-flow .ensures)
 
@@ -35,13 +20,5 @@ returns-4 c = sym (ap kindSaturation (c .enum-told3 .given .1))
 pub saturation-spec : {M : Type 1} → statement M
 saturation-spec =
     tie.close
-    (tie.spec
-    enum-known-kind
-    saturation-flow-requires
-    enum-told
-    enum-told-2
-    enum-told-3
-    returns
-    returns-2
-    returns-3
-    returns-4)
+    (tie.spec (λ c. search needs) (λ c κs. search needs) (λ c. search needs) (λ c. search needs) (λ c. search needs) returns
+    returns-2 returns-3 returns-4)

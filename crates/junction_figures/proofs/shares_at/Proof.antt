@@ -4,18 +4,10 @@ use Rattle.junction_figures.specs.Figures.{sharesAt}
 use Rattle.junction_figures.proofs.shares_at.Statement.{statement}
 use Rattle.junction_figures.proofs.shares_at.Tie as tie
 
-zone-at-requires : tie.Need-zone-at-requires
-zone-at-requires c κs = search needs
-
-forward-requires : tie.Need-forward-requires
-forward-requires c κs = search needs
-
-backward-requires : tie.Need-backward-requires
-backward-requires c κs = search needs
-
 returns : tie.Need-returns
 unfolding sharesAt
 returns c = simp (c .backward .ensures, c .before .forward .ensures, c .before .before .zone-at .ensures)
 
 pub shares-at-spec : {M : Type 1} → statement M
-shares-at-spec = tie.close (tie.spec zone-at-requires forward-requires backward-requires returns)
+shares-at-spec = tie.close
+    (tie.spec (λ c κs. search needs) (λ c κs. search needs) (λ c κs. search needs) returns)

@@ -4,12 +4,10 @@ use Rattle.junction_figures.specs.Figures.{sharesZone}
 use Rattle.junction_figures.proofs.shares_zone.Statement.{statement}
 use Rattle.junction_figures.proofs.shares_zone.Tie as tie
 
-first-shared-requires : tie.Need-first-shared-requires
-first-shared-requires c κs = search needs
-
 returns : tie.Need-returns
 unfolding sharesZone
 returns c = simp (c .before .first-shared .ensures)
 
 pub shares-zone-spec : {M : Type 1} → statement M
-shares-zone-spec = tie.close (tie.spec first-shared-requires returns)
+shares-zone-spec = tie.close
+    (tie.spec (λ c κs. search needs) returns)

@@ -4,15 +4,10 @@ use Rattle.junction_figures.specs.Figures.{streamDay}
 use Rattle.junction_figures.proofs.stream_day.Statement.{statement}
 use Rattle.junction_figures.proofs.stream_day.Tie as tie
 
-newest-rank-requires : tie.Need-newest-rank-requires
-newest-rank-requires c κs = search needs
-
-day-requires : tie.Need-day-requires
-day-requires c κs = search needs
-
 returns : tie.Need-returns
 unfolding streamDay
 returns c = simp (c .day .ensures, c .before .newest-rank .ensures)
 
 pub stream-day-spec : {M : Type 1} → statement M
-stream-day-spec = tie.close (tie.spec newest-rank-requires day-requires returns)
+stream-day-spec = tie.close
+    (tie.spec (λ c κs. search needs) (λ c κs. search needs) returns)

@@ -4,15 +4,10 @@ use Rattle.junction_figures.specs.Figures.{streamSaturation}
 use Rattle.junction_figures.proofs.stream_saturation.Statement.{statement}
 use Rattle.junction_figures.proofs.stream_saturation.Tie as tie
 
-stream-numbered-requires : tie.Need-stream-numbered-requires
-stream-numbered-requires c κs = search needs
-
-saturation-requires : tie.Need-saturation-requires
-saturation-requires c κs = search needs
-
 returns : tie.Need-returns
 unfolding streamSaturation
 returns c = simp (c .saturation .ensures, c .before .stream-numbered .ensures)
 
 pub stream-saturation-spec : {M : Type 1} → statement M
-stream-saturation-spec = tie.close (tie.spec stream-numbered-requires saturation-requires returns)
+stream-saturation-spec = tie.close
+    (tie.spec (λ c κs. search needs) (λ c κs. search needs) returns)

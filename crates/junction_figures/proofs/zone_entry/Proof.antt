@@ -4,20 +4,8 @@ use mathlib.Core.Path.{sym, _∙_}
 use Rattle.junction_figures.proofs.zone_entry.Statement.{statement}
 use Rattle.junction_figures.proofs.zone_entry.Tie as tie
 
-forward-requires : tie.Need-forward-requires
-forward-requires c κs = search needs
-
-entry-requires : tie.Need-entry-requires
-entry-requires c κs = search needs
-
 returns : tie.Need-returns
 returns c = simp (sym (c .before .before .forward .ensures) ∙ c .before .if1 .taken, c .entry .ensures)
-
-backward-requires : tie.Need-backward-requires
-backward-requires c κs = search needs
-
-entry-requires-2 : tie.Need-entry-requires-2
-entry-requires-2 c κs = search needs
 
 returns-2 : tie.Need-returns-2
 returns-2 c = simp (sym (c .before .before .before .before .forward .ensures) ∙ c .before .before .before .if1 .left, sym (c .before .before .backward .ensures) ∙ c .before .if2 .taken, c .entry2 .ensures)
@@ -28,11 +16,5 @@ returns-3 c = simp (sym (c .before .before .before .forward .ensures) ∙ c .bef
 pub zone-entry-spec : {M : Type 1} → statement M
 zone-entry-spec =
     tie.close
-    (tie.spec
-    forward-requires
-    entry-requires
-    returns
-    backward-requires
-    entry-requires-2
-    returns-2
+    (tie.spec (λ c κs. search needs) (λ c κs. search needs) returns (λ c κs. search needs) (λ c κs. search needs) returns-2
     returns-3)

@@ -5,7 +5,7 @@ use native.Mathlib.Nat.{le-antisymm}
 use native.Mathlib.Omega.{arith}
 use lib.ListN.{getD, replicate}
 use Rattle.laws.specs.Filled.{filled, filled-none, filled-next}
-use Rattle.phases.specs.Phases.{noPhase, phase}
+use Rattle.phase_lengths.specs.Phases.{noPhase, phase}
 use Rattle.junction_phases.specs.JunctionPhases.{Need, largest, phaseCount, phasesAt, withNeed}
 use Rattle.junction_phases.specs.Tabled.{needs-tabled, stream-phases}
 use Rattle.junction_phases.specs.Placed.{few-phases, phases-filled, need-moved}
@@ -22,14 +22,8 @@ abbrev μ-loop : tie.MeasureT-loop
 needs-at-requires : tie.Need-needs-at-requires Inv-loop μ-loop
 needs-at-requires c κs = let s = c .before in stream-phases (s .args .j) (s .pre .0)
 
-no-phase-requires : tie.Need-no-phase-requires Inv-loop μ-loop
-no-phase-requires c κs = tt
-
 loop-holds : tie.Need-loop-holds Inv-loop μ-loop
 loop-holds c = (omega arith, simp (c .no-phase .ensures, filled-none))
-
-phase-at-requires : tie.Need-phase-at-requires Inv-loop μ-loop
-phase-at-requires c κs = tt
 
 -- the phases are at most six
 six : (c : tie.After-phase-at Inv-loop μ-loop) → c .before .before .before .before .before .before .args .q .count ≤ 6
@@ -42,20 +36,11 @@ mul-with-need c = omega (arith, six c)
 array-read-with-need : tie.Need-array-read-with-need Inv-loop μ-loop
 array-read-with-need c = omega (arith, six c)
 
-with-need-requires : tie.Need-with-need-requires Inv-loop μ-loop
-with-need-requires c κs = tt
-
 mul-t19 : tie.Need-mul-t19 Inv-loop μ-loop
 mul-t19 c = omega (arith, six (c .before))
 
 element-set-from-now : tie.Need-element-set-from-now Inv-loop μ-loop
 element-set-from-now c = omega (arith, six (c .before))
-
-add-i : tie.Need-add-i Inv-loop μ-loop
-add-i c = omega arith
-
-loop-less : tie.Need-loop-less Inv-loop μ-loop
-loop-less c = omega arith
 
 loop-again : tie.Need-loop-again Inv-loop μ-loop
 loop-again c = (omega arith, simp (c .with-need .ensures, c .before .phase-at .ensures, c .before .before .before .loop .inv .1, filled-next))
@@ -77,19 +62,5 @@ returns c =
 pub at-cycle-spec : {M : Type 1} → statement M
 at-cycle-spec =
     tie.close
-    (tie.spec
-    Inv-loop
-    μ-loop
-    needs-at-requires
-    no-phase-requires
-    loop-holds
-    phase-at-requires
-    mul-with-need
-    array-read-with-need
-    with-need-requires
-    mul-t19
-    element-set-from-now
-    add-i
-    loop-less
-    loop-again
-    returns)
+    (tie.spec Inv-loop μ-loop needs-at-requires (λ c κs. tt) loop-holds (λ c κs. tt) mul-with-need array-read-with-need
+    (λ c κs. tt) mul-t19 element-set-from-now (λ c. omega arith) (λ c. omega arith) loop-again returns)

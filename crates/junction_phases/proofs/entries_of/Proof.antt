@@ -29,9 +29,6 @@ mul-c c = omega (arith, c .before .before .pre .0 .few)
 element-copy-out-c : tie.Need-element-copy-out-c Inv-loop μ-loop
 element-copy-out-c c = omega (arith, c .before .before .pre .0 .few)
 
-cast-a : tie.Need-cast-a Inv-loop μ-loop
-cast-a c = search needs
-
 sub-a : tie.Need-sub-a Inv-loop μ-loop
 sub-a c = zone (c .before .before) .a .0
 
@@ -41,9 +38,6 @@ mul-a c = omega (arith, zone (c .before .before))
 array-copy-out-a : tie.Need-array-copy-out-a Inv-loop μ-loop
 array-copy-out-a c = omega (arith, zone (c .before .before))
 
-cast-b : tie.Need-cast-b Inv-loop μ-loop
-cast-b c = search needs
-
 sub-b : tie.Need-sub-b Inv-loop μ-loop
 sub-b c = zone (c .before .before .before .before) .b .0
 
@@ -52,9 +46,6 @@ mul-b c = omega (arith, zone (c .before .before .before .before))
 
 array-copy-out-b : tie.Need-array-copy-out-b Inv-loop μ-loop
 array-copy-out-b c = omega (arith, zone (c .before .before .before .before))
-
-cast-f : tie.Need-cast-f Inv-loop μ-loop
-cast-f c = search needs
 
 sub-f : tie.Need-sub-f Inv-loop μ-loop
 sub-f c = zone (c .before .before .before .before .before .before) .phaseA .0
@@ -68,17 +59,11 @@ array-read-larger c = omega (arith, zone (c .before .before .before .before .bef
 onward-requires : tie.Need-onward-requires Inv-loop μ-loop
 onward-requires c κs = c .before .before .before .before .before .before .before .before .pre .1
 
-larger-requires : tie.Need-larger-requires Inv-loop μ-loop
-larger-requires c κs = tt
-
 mul-entries : tie.Need-mul-entries Inv-loop μ-loop
 mul-entries c = omega (arith, zone (c .before .before .before .before .before .before .before .before))
 
 array-write-entries : tie.Need-array-write-entries Inv-loop μ-loop
 array-write-entries c = omega (arith, zone (c .before .before .before .before .before .before .before .before))
-
-cast-g : tie.Need-cast-g Inv-loop μ-loop
-cast-g c = search needs
 
 sub-g : tie.Need-sub-g Inv-loop μ-loop
 sub-g c = zone (c .before .before .before .before .before .before .before .before .before) .phaseB .0
@@ -92,20 +77,11 @@ array-read-larger-2 c = omega (arith, zone (c .before .before .before .before .b
 onward-requires-2 : tie.Need-onward-requires-2 Inv-loop μ-loop
 onward-requires-2 c κs = c .before .before .before .before .before .before .before .before .before .before .before .pre .1
 
-larger-requires-2 : tie.Need-larger-requires-2 Inv-loop μ-loop
-larger-requires-2 c κs = tt
-
 mul-entries-2 : tie.Need-mul-entries-2 Inv-loop μ-loop
 mul-entries-2 c = omega (arith, zone (c .before .before .before .before .before .before .before .before .before .before .before))
 
 array-write-entries-2 : tie.Need-array-write-entries-2 Inv-loop μ-loop
 array-write-entries-2 c = omega (arith, zone (c .before .before .before .before .before .before .before .before .before .before .before))
-
-add-i : tie.Need-add-i Inv-loop μ-loop
-add-i c = omega arith
-
-loop-less : tie.Need-loop-less Inv-loop μ-loop
-loop-less c = omega arith
 
 loop-again : tie.Need-loop-again Inv-loop μ-loop
 loop-again c =
@@ -124,37 +100,7 @@ returns c = let l = c .before .loop in rw (le-antisymm (l .inv .0) (c .loop-test
 pub entries-of-spec : {M : Type 1} → statement M
 entries-of-spec =
     tie.close
-    (tie.spec
-    Inv-loop
-    μ-loop
-    loop-holds
-    mul-c
-    element-copy-out-c
-    cast-a
-    sub-a
-    mul-a
-    array-copy-out-a
-    cast-b
-    sub-b
-    mul-b
-    array-copy-out-b
-    cast-f
-    sub-f
-    mul-larger
-    array-read-larger
-    onward-requires
-    larger-requires
-    mul-entries
-    array-write-entries
-    cast-g
-    sub-g
-    mul-larger-2
-    array-read-larger-2
-    onward-requires-2
-    larger-requires-2
-    mul-entries-2
-    array-write-entries-2
-    add-i
-    loop-less
-    loop-again
-    returns)
+    (tie.spec Inv-loop μ-loop loop-holds mul-c element-copy-out-c (λ c. search needs) sub-a mul-a array-copy-out-a
+    (λ c. search needs) sub-b mul-b array-copy-out-b (λ c. search needs) sub-f mul-larger array-read-larger onward-requires
+    (λ c κs. tt) mul-entries array-write-entries (λ c. search needs) sub-g mul-larger-2 array-read-larger-2 onward-requires-2
+    (λ c κs. tt) mul-entries-2 array-write-entries-2 (λ c. omega arith) (λ c. omega arith) loop-again returns)

@@ -25,15 +25,6 @@ loop-holds c = (omega arith, by-phase-none _)
 range : (c : tie.In-loop Inv-loop μ-loop) → Between 1 6 (getD (c .before .before .args .t1) (c .before .loop .i) noStream .phase)
 range c = c .before .before .pre .each (c .before .loop .i) (c .loop-test .taken)
 
-mul-s : tie.Need-mul-s Inv-loop μ-loop
-mul-s c = omega arith
-
-array-copy-out-s : tie.Need-array-copy-out-s Inv-loop μ-loop
-array-copy-out-s c = omega arith
-
-cast-f : tie.Need-cast-f Inv-loop μ-loop
-cast-f c = search needs
-
 sub-f : tie.Need-sub-f Inv-loop μ-loop
 sub-f c = range (c .before .before) .0
 
@@ -43,23 +34,11 @@ mul-larger c = omega (arith, range (c .before .before))
 array-read-larger : tie.Need-array-read-larger Inv-loop μ-loop
 array-read-larger c = omega (arith, range (c .before .before))
 
-need-requires : tie.Need-need-requires Inv-loop μ-loop
-need-requires c κs = tt
-
-larger-requires : tie.Need-larger-requires Inv-loop μ-loop
-larger-requires c κs = tt
-
 mul-needs : tie.Need-mul-needs Inv-loop μ-loop
 mul-needs c = omega (arith, range (c .before .before .before .before))
 
 array-write-needs : tie.Need-array-write-needs Inv-loop μ-loop
 array-write-needs c = omega (arith, range (c .before .before .before .before))
-
-add-i : tie.Need-add-i Inv-loop μ-loop
-add-i c = omega arith
-
-loop-less : tie.Need-loop-less Inv-loop μ-loop
-loop-less c = omega arith
 
 loop-again : tie.Need-loop-again Inv-loop μ-loop
 loop-again c =
@@ -74,21 +53,6 @@ returns c = let l = c .before .loop in rw (le-antisymm (l .inv .0) (c .loop-test
 pub needs-at-spec : {M : Type 1} → statement M
 needs-at-spec =
     tie.close
-    (tie.spec
-    Inv-loop
-    μ-loop
-    loop-holds
-    mul-s
-    array-copy-out-s
-    cast-f
-    sub-f
-    mul-larger
-    array-read-larger
-    need-requires
-    larger-requires
-    mul-needs
-    array-write-needs
-    add-i
-    loop-less
-    loop-again
+    (tie.spec Inv-loop μ-loop loop-holds (λ c. omega arith) (λ c. omega arith) (λ c. search needs) sub-f mul-larger
+    array-read-larger (λ c κs. tt) (λ c κs. tt) mul-needs array-write-needs (λ c. omega arith) (λ c. omega arith) loop-again
     returns)

@@ -25,23 +25,8 @@ mul-s c = omega (arith, c .before .before .pre)
 array-copy-out-s : tie.Need-array-copy-out-s Inv-loop μ-loop
 array-copy-out-s c = omega (arith, c .before .before .pre)
 
-cast-larger : tie.Need-cast-larger Inv-loop μ-loop
-cast-larger c = search needs
-
-larger-requires : tie.Need-larger-requires Inv-loop μ-loop
-larger-requires c κs = tt
-
-add-i : tie.Need-add-i Inv-loop μ-loop
-add-i c = omega arith
-
-loop-less : tie.Need-loop-less Inv-loop μ-loop
-loop-less c = omega arith
-
 loop-again : tie.Need-loop-again Inv-loop μ-loop
 loop-again c = (omega arith, simp (c .larger .ensures, c .before .before .before .before .loop .inv .1, largest-next))
-
-at-most-six-requires : tie.Need-at-most-six-requires Inv-loop μ-loop
-at-most-six-requires c κs = tt
 
 returns : tie.Need-returns Inv-loop μ-loop
 returns c =
@@ -52,16 +37,5 @@ returns c =
 pub phase-count-spec : {M : Type 1} → statement M
 phase-count-spec =
     tie.close
-    (tie.spec
-    Inv-loop
-    μ-loop
-    loop-holds
-    mul-s
-    array-copy-out-s
-    cast-larger
-    larger-requires
-    add-i
-    loop-less
-    loop-again
-    at-most-six-requires
-    returns)
+    (tie.spec Inv-loop μ-loop loop-holds mul-s array-copy-out-s (λ c. search needs) (λ c κs. tt) (λ c. omega arith)
+    (λ c. omega arith) loop-again (λ c κs. tt) returns)

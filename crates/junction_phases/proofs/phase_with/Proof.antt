@@ -3,11 +3,9 @@ use borrow.Author.Needs.{needs}
 use Rattle.junction_phases.proofs.phase_with.Statement.{statement}
 use Rattle.junction_phases.proofs.phase_with.Tie as tie
 
-larger-requires : tie.Need-larger-requires
-larger-requires c κs = search needs
-
 returns : tie.Need-returns
 returns c = simp (c .larger .ensures)
 
 pub phase-with-spec : {M : Type 1} → statement M
-phase-with-spec = tie.close (tie.spec larger-requires returns)
+phase-with-spec = tie.close
+    (tie.spec (λ c κs. search needs) returns)

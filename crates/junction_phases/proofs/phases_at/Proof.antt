@@ -5,7 +5,7 @@ use native.Mathlib.Nat.{le-antisymm}
 use native.Mathlib.Omega.{arith}
 use lib.ListN.{getD, replicate}
 use Rattle.laws.specs.Filled.{filled, filled-none, filled-next}
-use Rattle.phases.specs.Phases.{noPhase}
+use Rattle.phase_lengths.specs.Phases.{noPhase}
 use Rattle.junction_phases.specs.ByPhase.{by-phase-same}
 use Rattle.junction_phases.specs.Made.{phaseWith, phases-made}
 use Rattle.junction_phases.specs.Tabled.{count-tabled, needs-tabled, ratios-tabled, entries-tabled, stream-phases, zones-phases}
@@ -34,9 +34,6 @@ entries-of-requires c κs =
 needs-at-requires : tie.Need-needs-at-requires Inv-loop μ-loop
 needs-at-requires c κs = let s = c .before .before .before .before in stream-phases (s .args .j) (s .pre .0)
 
-no-phase-requires : tie.Need-no-phase-requires Inv-loop μ-loop
-no-phase-requires c κs = tt
-
 loop-holds : tie.Need-loop-holds Inv-loop μ-loop
 loop-holds c = (omega arith, simp (c .no-phase .ensures, filled-none))
 
@@ -62,20 +59,11 @@ mul-phase-with-3 c = omega (arith, six c)
 array-read-phase-with-3 : tie.Need-array-read-phase-with-3 Inv-loop μ-loop
 array-read-phase-with-3 c = omega (arith, six c)
 
-phase-with-requires : tie.Need-phase-with-requires Inv-loop μ-loop
-phase-with-requires c κs = tt
-
 mul-t30 : tie.Need-mul-t30 Inv-loop μ-loop
 mul-t30 c = omega (arith, six (c .before))
 
 element-set-from-q : tie.Need-element-set-from-q Inv-loop μ-loop
 element-set-from-q c = omega (arith, six (c .before))
-
-add-i : tie.Need-add-i Inv-loop μ-loop
-add-i c = omega arith
-
-loop-less : tie.Need-loop-less Inv-loop μ-loop
-loop-less c = omega arith
 
 loop-again : tie.Need-loop-again Inv-loop μ-loop
 loop-again c = (omega arith, simp (c .phase-with .ensures, c .before .before .loop .inv .1, filled-next))
@@ -96,25 +84,6 @@ returns c =
 pub phases-at-spec : {M : Type 1} → statement M
 phases-at-spec =
     tie.close
-    (tie.spec
-    Inv-loop
-    μ-loop
-    phase-count-requires
-    ratios-of-requires
-    entries-of-requires
-    needs-at-requires
-    no-phase-requires
-    loop-holds
-    mul-phase-with
-    array-read-phase-with
-    mul-phase-with-2
-    array-read-phase-with-2
-    mul-phase-with-3
-    array-read-phase-with-3
-    phase-with-requires
-    mul-t30
-    element-set-from-q
-    add-i
-    loop-less
-    loop-again
-    returns)
+    (tie.spec Inv-loop μ-loop phase-count-requires ratios-of-requires entries-of-requires needs-at-requires (λ c κs. tt)
+    loop-holds mul-phase-with array-read-phase-with mul-phase-with-2 array-read-phase-with-2 mul-phase-with-3
+    array-read-phase-with-3 (λ c κs. tt) mul-t30 element-set-from-q (λ c. omega arith) (λ c. omega arith) loop-again returns)

@@ -24,15 +24,6 @@ loop-holds c = (omega arith, by-phase-none _)
 range : (c : tie.In-loop Inv-loop μ-loop) → Between 1 6 (getD (c .before .before .args .t1) (c .before .loop .i) noStream .phase)
 range c = c .before .before .pre .each (c .before .loop .i) (c .loop-test .taken)
 
-mul-s : tie.Need-mul-s Inv-loop μ-loop
-mul-s c = omega arith
-
-array-copy-out-s : tie.Need-array-copy-out-s Inv-loop μ-loop
-array-copy-out-s c = omega arith
-
-cast-f : tie.Need-cast-f Inv-loop μ-loop
-cast-f c = search needs
-
 sub-f : tie.Need-sub-f Inv-loop μ-loop
 sub-f c = range (c .before .before) .0
 
@@ -42,32 +33,11 @@ mul-larger c = omega (arith, range (c .before .before))
 array-read-larger : tie.Need-array-read-larger Inv-loop μ-loop
 array-read-larger c = omega (arith, range (c .before .before))
 
-is-car-requires : tie.Need-is-car-requires Inv-loop μ-loop
-is-car-requires c κs = tt
-
-mul-only : tie.Need-mul-only Inv-loop μ-loop
-mul-only c = omega arith
-
-element-copy-out-only : tie.Need-element-copy-out-only Inv-loop μ-loop
-element-copy-out-only c = omega arith
-
-only-requires : tie.Need-only-requires Inv-loop μ-loop
-only-requires c κs = tt
-
-larger-requires : tie.Need-larger-requires Inv-loop μ-loop
-larger-requires c κs = tt
-
 mul-ratios : tie.Need-mul-ratios Inv-loop μ-loop
 mul-ratios c = omega (arith, range (c .before .before .before .before .before))
 
 array-write-ratios : tie.Need-array-write-ratios Inv-loop μ-loop
 array-write-ratios c = omega (arith, range (c .before .before .before .before .before))
-
-add-i : tie.Need-add-i Inv-loop μ-loop
-add-i c = omega arith
-
-loop-less : tie.Need-loop-less Inv-loop μ-loop
-loop-less c = omega arith
 
 loop-again : tie.Need-loop-again Inv-loop μ-loop
 loop-again c =
@@ -82,24 +52,6 @@ returns c = let l = c .before .loop in rw (le-antisymm (l .inv .0) (c .loop-test
 pub ratios-of-spec : {M : Type 1} → statement M
 ratios-of-spec =
     tie.close
-    (tie.spec
-    Inv-loop
-    μ-loop
-    loop-holds
-    mul-s
-    array-copy-out-s
-    cast-f
-    sub-f
-    mul-larger
-    array-read-larger
-    is-car-requires
-    mul-only
-    element-copy-out-only
-    only-requires
-    larger-requires
-    mul-ratios
-    array-write-ratios
-    add-i
-    loop-less
-    loop-again
-    returns)
+    (tie.spec Inv-loop μ-loop loop-holds (λ c. omega arith) (λ c. omega arith) (λ c. search needs) sub-f mul-larger
+    array-read-larger (λ c κs. tt) (λ c. omega arith) (λ c. omega arith) (λ c κs. tt) (λ c κs. tt) mul-ratios array-write-ratios
+    (λ c. omega arith) (λ c. omega arith) loop-again returns)

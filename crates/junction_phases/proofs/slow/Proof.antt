@@ -29,21 +29,6 @@ mul-s c = omega (arith, c .before .before .pre .fields .fewStreams)
 element-copy-out-s : tie.Need-element-copy-out-s Inv-loop μ-loop
 element-copy-out-s c = omega (arith, c .before .before .pre .fields .fewStreams)
 
-is-slow-requires : tie.Need-is-slow-requires Inv-loop μ-loop
-is-slow-requires c κs = tt
-
-only-requires : tie.Need-only-requires Inv-loop μ-loop
-only-requires c κs = tt
-
-larger-requires : tie.Need-larger-requires Inv-loop μ-loop
-larger-requires c κs = tt
-
-add-i : tie.Need-add-i Inv-loop μ-loop
-add-i c = omega arith
-
-loop-less : tie.Need-loop-less Inv-loop μ-loop
-loop-less c = omega arith
-
 loop-again : tie.Need-loop-again Inv-loop μ-loop
 loop-again c = (omega arith, simp (c .larger .ensures, c .before .only .ensures, c .before .before .is-slow .ensures, c .before .before .before .before .before .loop .inv .1, largest-next))
 
@@ -57,16 +42,5 @@ returns c =
 pub slow-spec : {M : Type 1} → statement M
 slow-spec =
     tie.close
-    (tie.spec
-    Inv-loop
-    μ-loop
-    loop-holds
-    mul-s
-    element-copy-out-s
-    is-slow-requires
-    only-requires
-    larger-requires
-    add-i
-    loop-less
-    loop-again
-    returns)
+    (tie.spec Inv-loop μ-loop loop-holds mul-s element-copy-out-s (λ c κs. tt) (λ c κs. tt) (λ c κs. tt) (λ c. omega arith)
+    (λ c. omega arith) loop-again returns)

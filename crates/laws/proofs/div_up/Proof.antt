@@ -10,15 +10,6 @@ use Rattle.laws.proofs.div_up.Tie as tie
 returns : tie.Need-returns
 returns c = sym (ap (up (c .before .args .n)) (c .if1 .taken) ∙ up-zero _)
 
-sub-whole : tie.Need-sub-whole
-sub-whole c = search needs
-
-add-whole : tie.Need-add-whole
-add-whole c = search needs
-
-div-whole : tie.Need-div-whole
-div-whole c = search needs
-
 cast-result : tie.Need-cast-result
 unfolding up
 cast-result c = let a = c .before .args in omega (arith, up-small (a .n) (a .d) (pos-of-ne-zero (c .if1 .left)))
@@ -28,4 +19,5 @@ unfolding up
 returns-2 c = search needs
 
 pub div-up-spec : {M : Type 1} → statement M
-div-up-spec = tie.close (tie.spec returns sub-whole add-whole div-whole cast-result returns-2)
+div-up-spec = tie.close
+    (tie.spec returns (λ c. search needs) (λ c. search needs) (λ c. search needs) cast-result returns-2)

@@ -1,6 +1,6 @@
 -- `planning::find_cycle` meets its contract: the first length is at most 181.
 use mathlib.Core.Path.{_∙_}
-use Rattle.phases.specs.First.{first-length-range}
+use Rattle.phase_lengths.specs.First.{first-length-range}
 use Rattle.planning.specs.Planning.{firstTried}
 use Rattle.planning.proofs.find_cycle.Statement.{statement}
 use Rattle.planning.proofs.find_cycle.Tie as tie
@@ -18,4 +18,5 @@ returns : tie.Need-returns
 returns c = c .search .ensures ∙ rw (c .before .first-tried .ensures)
 
 pub find-cycle-spec : {M : Type 1} → statement M
-find-cycle-spec = tie.close (tie.spec first-tried-requires search-requires returns)
+find-cycle-spec = tie.close
+    (tie.spec first-tried-requires search-requires returns)

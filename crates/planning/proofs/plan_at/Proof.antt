@@ -10,8 +10,8 @@ use Rattle.laws.specs.Ranges.{Between}
 use Rattle.questions.specs.Blank.{noStream}
 use Rattle.questions.specs.Questions.{streamNumbered}
 use Rattle.tables.specs.Places.{stream-place}
-use Rattle.phases.specs.Phases.{sharing}
-use Rattle.phases.specs.Slots.{noSlot, slotAt, slot-place}
+use Rattle.phase_greens.specs.Greens.{sharing}
+use Rattle.phase_greens.specs.Slots.{noSlot, slotAt, slot-place}
 use Rattle.junction_phases.specs.JunctionPhases.{phasesAt}
 use Rattle.junction_phases.specs.Tabled.{stream-phases}
 use Rattle.plans.specs.Plans.{noGreen}
@@ -31,9 +31,6 @@ Inv-loop t j slots streams p₀ i₀ p i =
 abbrev μ-loop : tie.MeasureT-loop
 μ-loop t j slots streams p₀ i₀ p i = j .held .streams - i
 
-no-green-requires : tie.Need-no-green-requires Inv-loop μ-loop
-no-green-requires c κs = tt
-
 loop-holds : tie.Need-loop-holds Inv-loop μ-loop
 loop-holds c = (omega arith, simp (c .no-green .ensures, filled-none))
 
@@ -50,9 +47,6 @@ place c =
     let i = c .before .before .before .loop .i in
     let low = c .before .before .loop-test .taken in
     stream-phases (s .args .t1) (s .pre .0) .each i low
-
-cast-green-of : tie.Need-cast-green-of Inv-loop μ-loop
-cast-green-of c = search needs
 
 sub-green-of : tie.Need-sub-green-of Inv-loop μ-loop
 sub-green-of c = place c .0
@@ -88,12 +82,6 @@ mul-t24 c = omega (arith, c .before .before .before .before .before .before .bef
 element-set-from-p : tie.Need-element-set-from-p Inv-loop μ-loop
 element-set-from-p c = omega (arith, c .before .before .before .before .before .before .before .pre .0 .fields .fewStreams)
 
-add-i : tie.Need-add-i Inv-loop μ-loop
-add-i c = omega arith
-
-loop-less : tie.Need-loop-less Inv-loop μ-loop
-loop-less c = omega arith
-
 loop-again : tie.Need-loop-again Inv-loop μ-loop
 unfolding phaseGreen
 loop-again c = (omega arith, simp (c .green-of .ensures, slot (c .before), c .before .before .before .before .before .loop .inv .1, filled-next))
@@ -107,21 +95,6 @@ returns c =
 pub plan-at-spec : {M : Type 1} → statement M
 plan-at-spec =
     tie.close
-    (tie.spec
-    Inv-loop
-    μ-loop
-    no-green-requires
-    loop-holds
-    mul-stream
-    element-copy-out-stream
-    cast-green-of
-    sub-green-of
-    mul-green-of
-    element-copy-out-green-of
-    green-of-requires
-    mul-t24
-    element-set-from-p
-    add-i
-    loop-less
-    loop-again
-    returns)
+    (tie.spec Inv-loop μ-loop (λ c κs. tt) loop-holds mul-stream element-copy-out-stream (λ c. search needs) sub-green-of
+    mul-green-of element-copy-out-green-of green-of-requires mul-t24 element-set-from-p (λ c. omega arith) (λ c. omega arith)
+    loop-again returns)

@@ -16,8 +16,8 @@ use Rattle.tables.specs.Places.{stream-place, load-place, conflict-place}
 use Rattle.tables.specs.Tables.{noConflict, conflictsOf}
 use Rattle.tables.specs.declared.Conflict.{Conflict}
 use Rattle.tables.specs.declared.Conflicts.{Conflicts}
-use Rattle.phases.specs.Phases.{possible}
-use Rattle.phases.specs.Slots.{slotsOf}
+use Rattle.phase_greens.specs.Greens.{possible}
+use Rattle.phase_greens.specs.Slots.{slotsOf}
 use Rattle.junction_phases.specs.JunctionPhases.{phasesAt}
 use Rattle.junction_phases.specs.Placed.{few-phases}
 use Rattle.plans.specs.WellFormed.{green-numbered, green-place}
@@ -73,24 +73,12 @@ add-tried c = omega (arith, c .before .search .inv .count)
 at-cycle-requires : tie.Need-at-cycle-requires Inv-loop μ-loop Inv-loop2 μ-loop2 Inv-loop3 μ-loop3 Inv-search μ-search
 at-cycle-requires c κs = (c .before .before .pre .0, c .before .before .pre .1 .1 .1 .0)
 
-shared-out-requires : tie.Need-shared-out-requires Inv-loop μ-loop Inv-loop2 μ-loop2 Inv-loop3 μ-loop3 Inv-search μ-search
-shared-out-requires c κs = tt
-
-slots-of-requires : tie.Need-slots-of-requires Inv-loop μ-loop Inv-loop2 μ-loop2 Inv-loop3 μ-loop3 Inv-search μ-search
-slots-of-requires c κs = tt
-
 possible-requires : tie.Need-possible-requires Inv-loop μ-loop Inv-loop2 μ-loop2 Inv-loop3 μ-loop3 Inv-search μ-search
 unfolding phasesAt
 possible-requires c κs = (
   rw (c .before .before .at-cycle .ensures) (few-phases (c .before .before .before .before .before .args .t1)),
   c .slots-of .ensures ∙ ap (slotsOf _) (c .before .shared-out .ensures),
 )
-
-add-t : tie.Need-add-t Inv-loop μ-loop Inv-loop2 μ-loop2 Inv-loop3 μ-loop3 Inv-search μ-search
-add-t c = omega arith
-
-search-less : tie.Need-search-less Inv-loop μ-loop Inv-loop2 μ-loop2 Inv-loop3 μ-loop3 Inv-search μ-search
-search-less c = omega arith
 
 search-again : tie.Need-search-again Inv-loop μ-loop Inv-loop2 μ-loop2 Inv-loop3 μ-loop3 Inv-search μ-search
 search-again c =
@@ -126,9 +114,6 @@ mul-enough-green-2 c = omega (arith, c .before .before .before .before .before .
 element-copy-out-enough-green-2 : tie.Need-element-copy-out-enough-green-2 Inv-loop μ-loop Inv-loop2 μ-loop2 Inv-loop3 μ-loop3 Inv-search μ-search
 element-copy-out-enough-green-2 c = omega (arith, c .before .before .before .before .before .before .before .before .before .before .before .pre .0 .fields .fewStreams)
 
-enough-green-requires : tie.Need-enough-green-requires Inv-loop μ-loop Inv-loop2 μ-loop2 Inv-loop3 μ-loop3 Inv-search μ-search
-enough-green-requires c κs = tt
-
 need-here : (c : tie.After-enough-green Inv-loop μ-loop Inv-loop2 μ-loop2 Inv-loop3 μ-loop3 Inv-search μ-search) → c .enough-green .result ≡ needMet (c .before .before .before .before .before .before .before .before .before .before .before .before .before .args .t1) (c .before .before .before .before .before .plan-at .result) (c .before .before .before .before .loop .n + 1)
 unfolding needMet
 need-here c =
@@ -150,9 +135,6 @@ search-again-2 c =
 
 add-n : tie.Need-add-n Inv-loop μ-loop Inv-loop2 μ-loop2 Inv-loop3 μ-loop3 Inv-search μ-search
 add-n c = omega (arith, c .before .before .before .before .loop-test .taken, c .before .before .before .before .before .before .before .before .before .before .before .before .before .before .pre .0 .fields .fewStreams)
-
-loop-less : tie.Need-loop-less Inv-loop μ-loop Inv-loop2 μ-loop2 Inv-loop3 μ-loop3 Inv-search μ-search
-loop-less c = omega arith
 
 loop-again : tie.Need-loop-again Inv-loop μ-loop Inv-loop2 μ-loop2 Inv-loop3 μ-loop3 Inv-search μ-search
 loop-again c =
@@ -182,9 +164,6 @@ mul-served-3 c = omega (arith, c .before .before .before .before .before .before
 element-copy-out-served-3 : tie.Need-element-copy-out-served-3 Inv-loop μ-loop Inv-loop2 μ-loop2 Inv-loop3 μ-loop3 Inv-search μ-search
 element-copy-out-served-3 c = omega (arith, c .before .before .before .before .before .before .before .before .before .before .before .before .before .before .pre .0 .fields .fewStreams)
 
-served-requires : tie.Need-served-requires Inv-loop μ-loop Inv-loop2 μ-loop2 Inv-loop3 μ-loop3 Inv-search μ-search
-served-requires c κs = tt
-
 capacity-here : (c : tie.After-served Inv-loop μ-loop Inv-loop2 μ-loop2 Inv-loop3 μ-loop3 Inv-search μ-search) → c .served .result ≡ capacityMet (c .before .before .before .before .before .before .before .before .before .before .before .before .before .before .before .before .args .t1) (c .before .before .before .before .before .before .before .before .plan-at .result) (c .before .before .before .before .before .loop2 .c + 1)
 unfolding capacityMet
 capacity-here c =
@@ -207,9 +186,6 @@ search-again-3 c =
 add-c : tie.Need-add-c Inv-loop μ-loop Inv-loop2 μ-loop2 Inv-loop3 μ-loop3 Inv-search μ-search
 add-c c = omega (arith, c .before .before .before .before .before .loop2-test .taken, c .before .before .before .before .before .before .before .before .before .before .before .before .before .before .before .before .before .pre .0 .fields .fewStreams)
 
-loop2-less : tie.Need-loop2-less Inv-loop μ-loop Inv-loop2 μ-loop2 Inv-loop3 μ-loop3 Inv-search μ-search
-loop2-less c = omega arith
-
 loop2-again : tie.Need-loop2-again Inv-loop μ-loop Inv-loop2 μ-loop2 Inv-loop3 μ-loop3 Inv-search μ-search
 loop2-again c =
     let l = c .before .before .before .before .before .before .loop2 in
@@ -226,14 +202,8 @@ mul-conflict c = omega (arith, c .before .before .before .before .before .before
 element-copy-out-conflict : tie.Need-element-copy-out-conflict Inv-loop μ-loop Inv-loop2 μ-loop2 Inv-loop3 μ-loop3 Inv-search μ-search
 element-copy-out-conflict c = omega (arith, c .before .before .before .before .before .before .before .before .before .before .before .before .before .before .pre .0 .fields .fewZones)
 
-cast-a : tie.Need-cast-a Inv-loop μ-loop Inv-loop2 μ-loop2 Inv-loop3 μ-loop3 Inv-search μ-search
-cast-a c = search needs
-
 sub-a : tie.Need-sub-a Inv-loop μ-loop Inv-loop2 μ-loop2 Inv-loop3 μ-loop3 Inv-search μ-search
 sub-a c = ends (c .before .before .before .before .before .before .before .before .before .before .before .before .before .before .before .before .args .t1) (c .before .before .before .before .before .before .before .before .before .before .before .before .before .before .before .before .pre .0) (c .before .before .before .before .before .before .before .before .before .before .before .before .before .before .before .before .pre .1 .1 .0) (c .before .before .before .loop3 .z) (c .before .before .loop3-test .taken) .a .0
-
-cast-b : tie.Need-cast-b Inv-loop μ-loop Inv-loop2 μ-loop2 Inv-loop3 μ-loop3 Inv-search μ-search
-cast-b c = search needs
 
 sub-b : tie.Need-sub-b Inv-loop μ-loop Inv-loop2 μ-loop2 Inv-loop3 μ-loop3 Inv-search μ-search
 sub-b c = ends (c .before .before .before .before .before .before .before .before .before .before .before .before .before .before .before .before .before .args .t1) (c .before .before .before .before .before .before .before .before .before .before .before .before .before .before .before .before .before .pre .0) (c .before .before .before .before .before .before .before .before .before .before .before .before .before .before .before .before .before .pre .1 .1 .0) (c .before .before .before .before .loop3 .z) (c .before .before .before .loop3-test .taken) .b .0
@@ -249,9 +219,6 @@ mul-zone-clear-2 c = omega (arith, c .before .before .before .before .before .be
 
 element-copy-out-zone-clear-2 : tie.Need-element-copy-out-zone-clear-2 Inv-loop μ-loop Inv-loop2 μ-loop2 Inv-loop3 μ-loop3 Inv-search μ-search
 element-copy-out-zone-clear-2 c = omega (arith, c .before .before .before .before .before .before .before .before .before .before .before .before .before .before .before .before .before .before .pre .0 .fields .fewStreams, ends (c .before .before .before .before .before .before .before .before .before .before .before .before .before .before .before .before .before .before .args .t1) (c .before .before .before .before .before .before .before .before .before .before .before .before .before .before .before .before .before .before .pre .0) (c .before .before .before .before .before .before .before .before .before .before .before .before .before .before .before .before .before .before .pre .1 .1 .0) (c .before .before .before .before .before .loop3 .z) (c .before .before .before .before .loop3-test .taken) .b)
-
-zone-clear-requires : tie.Need-zone-clear-requires Inv-loop μ-loop Inv-loop2 μ-loop2 Inv-loop3 μ-loop3 Inv-search μ-search
-zone-clear-requires c κs = tt
 
 zone-here : (c : tie.After-zone-clear Inv-loop μ-loop Inv-loop2 μ-loop2 Inv-loop3 μ-loop3 Inv-search μ-search) → c .zone-clear .result ≡ zoneMet (c .before .before .before .before .before .before .before .before .before .before .before .before .before .before .before .before .before .before .before .before .args .t1) (c .before .before .before .before .before .before .before .before .before .before .before .before .plan-at .result) (c .before .before .before .before .before .before .before .loop3 .z + 1)
 unfolding zoneMet
@@ -281,9 +248,6 @@ search-again-4 c =
 add-z : tie.Need-add-z Inv-loop μ-loop Inv-loop2 μ-loop2 Inv-loop3 μ-loop3 Inv-search μ-search
 add-z c = omega (arith, c .before .before .before .before .before .before .before .loop3-test .taken, c .before .before .before .before .before .before .before .before .before .before .before .before .before .before .before .before .before .before .before .before .before .pre .0 .fields .fewZones)
 
-loop3-less : tie.Need-loop3-less Inv-loop μ-loop Inv-loop2 μ-loop2 Inv-loop3 μ-loop3 Inv-search μ-search
-loop3-less c = omega arith
-
 loop3-again : tie.Need-loop3-again Inv-loop μ-loop Inv-loop2 μ-loop2 Inv-loop3 μ-loop3 Inv-search μ-search
 loop3-again c =
     let l = c .before .before .before .before .before .before .before .before .loop3 in (
@@ -307,68 +271,11 @@ returns-2 c =
 pub search-spec : {M : Type 1} → statement M
 search-spec =
     tie.close
-    (tie.spec
-    Inv-loop
-    μ-loop
-    Inv-loop2
-    μ-loop2
-    Inv-loop3
-    μ-loop3
-    Inv-search
-    μ-search
-    search-holds
-    add-tried
-    at-cycle-requires
-    shared-out-requires
-    slots-of-requires
-    possible-requires
-    add-t
-    search-less
-    search-again
-    plan-at-requires
-    loop-holds
-    mul-enough-green
-    element-copy-out-enough-green
-    mul-enough-green-2
-    element-copy-out-enough-green-2
-    enough-green-requires
-    add-t-2
-    search-less-2
-    search-again-2
-    add-n
-    loop-less
-    loop-again
-    loop2-holds
-    mul-served
-    element-copy-out-served
-    mul-served-2
-    element-copy-out-served-2
-    mul-served-3
-    element-copy-out-served-3
-    served-requires
-    add-t-3
-    search-less-3
-    search-again-3
-    add-c
-    loop2-less
-    loop2-again
-    loop3-holds
-    mul-conflict
-    element-copy-out-conflict
-    cast-a
-    sub-a
-    cast-b
-    sub-b
-    mul-zone-clear
-    element-copy-out-zone-clear
-    mul-zone-clear-2
-    element-copy-out-zone-clear-2
-    zone-clear-requires
-    add-t-4
-    search-less-4
-    search-again-4
-    add-z
-    loop3-less
-    loop3-again
-    returns
-    returns-2)
+    (tie.spec Inv-loop μ-loop Inv-loop2 μ-loop2 Inv-loop3 μ-loop3 Inv-search μ-search search-holds add-tried at-cycle-requires
+    (λ c κs. tt) (λ c κs. tt) possible-requires (λ c. omega arith) (λ c. omega arith) search-again plan-at-requires loop-holds
+    mul-enough-green element-copy-out-enough-green mul-enough-green-2 element-copy-out-enough-green-2 (λ c κs. tt) add-t-2
+    search-less-2 search-again-2 add-n (λ c. omega arith) loop-again loop2-holds mul-served element-copy-out-served mul-served-2
+    element-copy-out-served-2 mul-served-3 element-copy-out-served-3 (λ c κs. tt) add-t-3 search-less-3 search-again-3 add-c
+    (λ c. omega arith) loop2-again loop3-holds mul-conflict element-copy-out-conflict (λ c. search needs) sub-a
+    (λ c. search needs) sub-b mul-zone-clear element-copy-out-zone-clear mul-zone-clear-2 element-copy-out-zone-clear-2
+    (λ c κs. tt) add-t-4 search-less-4 search-again-4 add-z (λ c. omega arith) loop3-again returns returns-2)

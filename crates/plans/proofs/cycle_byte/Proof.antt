@@ -18,15 +18,9 @@ returns-3 : tie.Need-returns-3
 unfolding cycleByte
 returns-3 c = rw (c .if3 .taken)
 
-high-requires : tie.Need-high-requires
-high-requires c κs = search needs
-
 returns-4 : tie.Need-returns-4
 unfolding cycleByte
 returns-4 c = rw (c .before .if4 .taken) (c .high .ensures)
-
-low-requires : tie.Need-low-requires
-low-requires c κs = search needs
 
 returns-5 : tie.Need-returns-5
 unfolding cycleByte
@@ -34,4 +28,5 @@ returns-5 c = let last : c .before .before .before .before .before .args .k ≡ 
 
 pub cycle-byte-spec : {M : Type 1} → statement M
 cycle-byte-spec =
-    tie.close (tie.spec returns returns-2 returns-3 high-requires returns-4 low-requires returns-5)
+    tie.close
+    (tie.spec returns returns-2 returns-3 (λ c κs. search needs) returns-4 (λ c κs. search needs) returns-5)

@@ -19,36 +19,21 @@ returns-3 : tie.Need-returns-3
 unfolding greenByte
 returns-3 c = rw (c .if3 .taken)
 
-cast-result : tie.Need-cast-result
-cast-result c = search needs
-
 returns-4 : tie.Need-returns-4
 unfolding greenByte
 returns-4 c = rw (c .if4 .taken)
-
-high-requires : tie.Need-high-requires
-high-requires c κs = search needs
 
 returns-5 : tie.Need-returns-5
 unfolding greenByte
 returns-5 c = rw (c .before .if5 .taken) (c .high .ensures)
 
-low-requires : tie.Need-low-requires
-low-requires c κs = search needs
-
 returns-6 : tie.Need-returns-6
 unfolding greenByte
 returns-6 c = rw (c .before .if6 .taken) (c .low .ensures)
 
-high-requires-2 : tie.Need-high-requires-2
-high-requires-2 c κs = search needs
-
 returns-7 : tie.Need-returns-7
 unfolding greenByte
 returns-7 c = rw (c .before .if7 .taken) (c .high2 .ensures)
-
-low-requires-2 : tie.Need-low-requires-2
-low-requires-2 c κs = search needs
 
 -- none of the first three bytes is asked for
 body : (k : ℕ) → (k ≡ 0 → ⊥) → (k ≡ 1 → ⊥) → (k ≡ 2 → ⊥) → 3 ≤ k
@@ -68,17 +53,5 @@ returns-8 c =
 pub green-byte-spec : {M : Type 1} → statement M
 green-byte-spec =
     tie.close
-    (tie.spec
-    returns
-    returns-2
-    returns-3
-    cast-result
-    returns-4
-    high-requires
-    returns-5
-    low-requires
-    returns-6
-    high-requires-2
-    returns-7
-    low-requires-2
-    returns-8)
+    (tie.spec returns returns-2 returns-3 (λ c. search needs) returns-4 (λ c κs. search needs) returns-5 (λ c κs. search needs)
+    returns-6 (λ c κs. search needs) returns-7 (λ c κs. search needs) returns-8)

@@ -5,28 +5,13 @@ use Rattle.plans.specs.Plans.{greenOf}
 use Rattle.plans.proofs.green_of.Statement.{statement}
 use Rattle.plans.proofs.green_of.Tie as tie
 
-no-green-requires : tie.Need-no-green-requires
-no-green-requires c κs = search needs
-
 returns : tie.Need-returns
 unfolding greenOf
 returns c = simp (eq-eqb _ _ (c .before .if1 .taken), c .no-green .ensures)
 
-no-green-requires-2 : tie.Need-no-green-requires-2
-no-green-requires-2 c κs = search needs
-
 returns-2 : tie.Need-returns-2
 unfolding greenOf
 returns-2 c = simp (ne-eqb _ _ (c .before .before .if1 .left), lt-ltb _ _ (c .before .if2 .taken), c .no-green2 .ensures)
-
-sub-i : tie.Need-sub-i
-sub-i c = search needs
-
-mul-result : tie.Need-mul-result
-mul-result c = search needs
-
-element-copy-out-result : tie.Need-element-copy-out-result
-element-copy-out-result c = search needs
 
 returns-3 : tie.Need-returns-3
 unfolding greenOf
@@ -35,12 +20,5 @@ returns-3 c = simp (ne-eqb _ _ (c .before .before .if1 .left), le-ltb _ _ (c .be
 pub green-of-spec : {M : Type 1} → statement M
 green-of-spec =
     tie.close
-    (tie.spec
-    no-green-requires
-    returns
-    no-green-requires-2
-    returns-2
-    sub-i
-    mul-result
-    element-copy-out-result
-    returns-3)
+    (tie.spec (λ c κs. search needs) returns (λ c κs. search needs) returns-2 (λ c. search needs) (λ c. search needs)
+    (λ c. search needs) returns-3)

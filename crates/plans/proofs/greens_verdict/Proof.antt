@@ -16,14 +16,8 @@ abbrev μ-loop : tie.MeasureT-loop
 loop-holds : tie.Need-loop-holds Inv-loop μ-loop
 loop-holds c = left-begins _ _ _ (c .before .pre)
 
-add-green-verdict : tie.Need-add-green-verdict Inv-loop μ-loop
-add-green-verdict c = omega arith
-
 green-verdict-requires : tie.Need-green-verdict-requires Inv-loop μ-loop
 green-verdict-requires c κs = c .before .loop .inv .inside
-
-refused-requires : tie.Need-refused-requires Inv-loop μ-loop
-refused-requires c κs = tt
 
 returns : tie.Need-returns Inv-loop μ-loop
 returns c =
@@ -34,12 +28,6 @@ returns c =
 field-end-requires : tie.Need-field-end-requires Inv-loop μ-loop
 field-end-requires c κs = c .before .before .before .before .loop .inv .inside
 
-add-i : tie.Need-add-i Inv-loop μ-loop
-add-i c = omega arith
-
-loop-less : tie.Need-loop-less Inv-loop μ-loop
-loop-less c = omega arith
-
 loop-again : tie.Need-loop-again Inv-loop μ-loop
 loop-again c =
     let e = c .before .before .before .green-verdict .ensures in
@@ -47,26 +35,11 @@ loop-again c =
     (left-turns _ _ _ _ _ (c .before .before .before .before .before .loop .inv) (c .before .before .before .before .loop-test .taken)
     (ap isRefused (sym e) ∙ sym (c .before .before .refused .ensures) ∙ c .before .if1 .left))
 
-ask-requires : tie.Need-ask-requires Inv-loop μ-loop
-ask-requires c κs = tt
-
 returns-2 : tie.Need-returns-2 Inv-loop μ-loop
 returns-2 c = c .ask .ensures ∙ left-ends _ _ _ _ _ (c .before .before .loop .inv) (c .before .loop-test .left)
 
 pub greens-verdict-spec : {M : Type 1} → statement M
 greens-verdict-spec =
     tie.close
-    (tie.spec
-    Inv-loop
-    μ-loop
-    loop-holds
-    add-green-verdict
-    green-verdict-requires
-    refused-requires
-    returns
-    field-end-requires
-    add-i
-    loop-less
-    loop-again
-    ask-requires
-    returns-2)
+    (tie.spec Inv-loop μ-loop loop-holds (λ c. omega arith) green-verdict-requires (λ c κs. tt) returns field-end-requires
+    (λ c. omega arith) (λ c. omega arith) loop-again (λ c κs. tt) returns-2)

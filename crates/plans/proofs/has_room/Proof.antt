@@ -9,12 +9,10 @@ returns : tie.Need-returns
 unfolding hasRoom
 returns c = simp (lt-leb _ _ (c .if1 .taken))
 
-plan-size-requires : tie.Need-plan-size-requires
-plan-size-requires c κs = search needs
-
 returns-2 : tie.Need-returns-2
 unfolding hasRoom
 returns-2 c = simp (le-leb _ _ (c .before .if1 .left), c .plan-size .ensures)
 
 pub has-room-spec : {M : Type 1} → statement M
-has-room-spec = tie.close (tie.spec returns plan-size-requires returns-2)
+has-room-spec = tie.close
+    (tie.spec returns (λ c κs. search needs) returns-2)

@@ -17,29 +17,14 @@ Inv-loop file plan₀ i₀ plan i =
 abbrev μ-loop : tie.MeasureT-loop
 μ-loop file plan₀ i₀ plan i = 16 - i
 
-number-requires : tie.Need-number-requires Inv-loop μ-loop
-number-requires c κs = tt
-
-no-green-requires : tie.Need-no-green-requires Inv-loop μ-loop
-no-green-requires c κs = tt
-
 loop-holds : tie.Need-loop-holds Inv-loop μ-loop
 loop-holds c = (omega arith, simp (c .no-green .ensures, c .before .number .ensures, filled-none))
 
 green-at-requires : tie.Need-green-at-requires Inv-loop μ-loop
 green-at-requires c κs = c .before .loop .inv .0
 
-mul-t9 : tie.Need-mul-t9 Inv-loop μ-loop
-mul-t9 c = omega arith
-
 element-set-from-plan : tie.Need-element-set-from-plan Inv-loop μ-loop
 element-set-from-plan c = c .before .loop-test .taken
-
-add-i : tie.Need-add-i Inv-loop μ-loop
-add-i c = omega arith
-
-loop-less : tie.Need-loop-less Inv-loop μ-loop
-loop-less c = omega arith
 
 loop-again : tie.Need-loop-again Inv-loop μ-loop
 loop-again c = (omega arith, simp (c .green-at .ensures, c .before .before .loop .inv .1, filled-next))
@@ -53,16 +38,5 @@ returns c =
 pub plan-of-spec : {M : Type 1} → statement M
 plan-of-spec =
     tie.close
-    (tie.spec
-    Inv-loop
-    μ-loop
-    number-requires
-    no-green-requires
-    loop-holds
-    green-at-requires
-    mul-t9
-    element-set-from-plan
-    add-i
-    loop-less
-    loop-again
-    returns)
+    (tie.spec Inv-loop μ-loop (λ c κs. tt) (λ c κs. tt) loop-holds green-at-requires (λ c. omega arith) element-set-from-plan
+    (λ c. omega arith) (λ c. omega arith) loop-again returns)

@@ -5,15 +5,10 @@ use Rattle.plans.specs.Writing.{planSize}
 use Rattle.plans.proofs.plan_size.Statement.{statement}
 use Rattle.plans.proofs.plan_size.Tie as tie
 
-mul-result : tie.Need-mul-result
-mul-result c = search needs
-
-add-result : tie.Need-add-result
-add-result c = search needs
-
 returns : tie.Need-returns
 unfolding planSize
 returns c = refl
 
 pub plan-size-spec : {M : Type 1} → statement M
-plan-size-spec = tie.close (tie.spec mul-result add-result returns)
+plan-size-spec = tie.close
+    (tie.spec (λ c. search needs) (λ c. search needs) returns)

@@ -7,20 +7,11 @@ use Rattle.plans.specs.Plans.{cycleVerdict, planVerdict}
 use Rattle.plans.proofs.verdict.Statement.{statement}
 use Rattle.plans.proofs.verdict.Tie as tie
 
-cycle-verdict-requires : tie.Need-cycle-verdict-requires
-cycle-verdict-requires c κs = search needs
-
-refused-requires : tie.Need-refused-requires
-refused-requires c κs = search needs
-
 returns : tie.Need-returns
 unfolding planVerdict
 returns c =
     let e = c .before .before .cycle-verdict .ensures in
     e ∙ sym (first-refused _ _ (ap isRefused (sym e) ∙ sym (c .before .refused .ensures) ∙ c .if1 .taken))
-
-field-end-requires : tie.Need-field-end-requires
-field-end-requires c κs = search needs
 
 greens-verdict-requires : tie.Need-greens-verdict-requires
 unfolding cycleVerdict
@@ -39,10 +30,4 @@ returns-2 c =
 pub verdict-spec : {M : Type 1} → statement M
 verdict-spec =
     tie.close
-    (tie.spec
-    cycle-verdict-requires
-    refused-requires
-    returns
-    field-end-requires
-    greens-verdict-requires
-    returns-2)
+    (tie.spec (λ c κs. search needs) (λ c κs. search needs) returns (λ c κs. search needs) greens-verdict-requires returns-2)

@@ -5,18 +5,12 @@ use Rattle.plans.specs.Writing.{has-room, written}
 use Rattle.plans.proofs.write.Statement.{statement}
 use Rattle.plans.proofs.write.Tie as tie
 
-has-room-requires : tie.Need-has-room-requires
-has-room-requires c κs = search needs
-
 plan-size-requires : tie.Need-plan-size-requires
 plan-size-requires c κs = has-room _ _ (sym (c .before .has-room .ensures) ∙ c .if1 .taken) .0
 
 write-bytes-requires : tie.Need-write-bytes-requires
 write-bytes-requires c κs =
     rw (c .before .plan-size .ensures) (has-room _ _ (sym (c .before .before .before .has-room .ensures) ∙ c .before .before .if1 .taken) .1)
-
-same-length : tie.Need-same-length
-same-length c = search needs
 
 returns : tie.Need-returns
 unfolding written
@@ -32,10 +26,4 @@ returns-2 c = simp (sym (c .before .has-room .ensures) ∙ c .if1 .left)
 pub write-spec : {M : Type 1} → statement M
 write-spec =
     tie.close
-    (tie.spec
-    has-room-requires
-    plan-size-requires
-    write-bytes-requires
-    same-length
-    returns
-    returns-2)
+    (tie.spec (λ c κs. search needs) plan-size-requires write-bytes-requires (λ c. search needs) returns returns-2)

@@ -22,17 +22,8 @@ loop-length c = ap length (c .loop .inv .1) ∙ filled-length _ _ _
 loop-holds : tie.Need-loop-holds Inv-loop μ-loop
 loop-holds c = (omega arith, simp filled-none)
 
-plan-byte-requires : tie.Need-plan-byte-requires Inv-loop μ-loop
-plan-byte-requires c κs = tt
-
 slice-write-out : tie.Need-slice-write-out Inv-loop μ-loop
 slice-write-out c = omega (arith, loop-length (c .before .before))
-
-add-k : tie.Need-add-k Inv-loop μ-loop
-add-k c = omega arith
-
-loop-less : tie.Need-loop-less Inv-loop μ-loop
-loop-less c = omega arith
 
 loop-again : tie.Need-loop-again Inv-loop μ-loop
 loop-again c = (omega arith, simp (c .plan-byte .ensures, c .before .before .loop .inv .1, filled-next))
@@ -48,14 +39,5 @@ returns c =
 pub write-bytes-spec : {M : Type 1} → statement M
 write-bytes-spec =
     tie.close
-    (tie.spec
-    Inv-loop
-    μ-loop
-    loop-holds
-    plan-byte-requires
-    slice-write-out
-    add-k
-    loop-less
-    loop-again
-    same-length
-    returns)
+    (tie.spec Inv-loop μ-loop loop-holds (λ c κs. tt) slice-write-out (λ c. omega arith) (λ c. omega arith) loop-again
+    same-length returns)

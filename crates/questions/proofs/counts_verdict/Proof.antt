@@ -5,19 +5,14 @@ use Rattle.questions.specs.Questions.{countsVerdict}
 use Rattle.questions.proofs.counts_verdict.Statement.{statement}
 use Rattle.questions.proofs.counts_verdict.Tie as tie
 
-first-lacking-requires : tie.Need-first-lacking-requires
-first-lacking-requires c κs = search needs
-
 returns : tie.Need-returns
 unfolding countsVerdict
 returns c = let e = c .before .first-lacking .ensures in simp (le-leb _ _ (rw e at (c .if1 .taken)))
-
-add-t5 : tie.Need-add-t5
-add-t5 c = search needs
 
 returns-2 : tie.Need-returns-2
 unfolding countsVerdict
 returns-2 c = let e = c .before .first-lacking .ensures in simp (e, lt-leb _ _ (rw e at (c .if1 .left)))
 
 pub counts-verdict-spec : {M : Type 1} → statement M
-counts-verdict-spec = tie.close (tie.spec first-lacking-requires returns add-t5 returns-2)
+counts-verdict-spec = tie.close
+    (tie.spec (λ c κs. search needs) returns (λ c. search needs) returns-2)

@@ -4,12 +4,10 @@ use Rattle.questions.specs.Questions.{exists}
 use Rattle.questions.proofs.exists.Statement.{statement}
 use Rattle.questions.proofs.exists.Tie as tie
 
-numbered-requires : tie.Need-numbered-requires
-numbered-requires c κs = search needs
-
 returns : tie.Need-returns
 unfolding exists
 returns c = c .numbered .ensures
 
 pub exists-spec : {M : Type 1} → statement M
-exists-spec = tie.close (tie.spec numbered-requires returns)
+exists-spec = tie.close
+    (tie.spec (λ c κs. search needs) returns)

@@ -22,14 +22,8 @@ loop-holds : tie.Need-loop-holds Inv-loop μ-loop
 unfolding firstInPhase
 loop-holds c = (omega arith, refl)
 
-mul-s : tie.Need-mul-s Inv-loop μ-loop
-mul-s c = search needs
-
 array-copy-out-s : tie.Need-array-copy-out-s Inv-loop μ-loop
 array-copy-out-s c = c .if1 .taken
-
-no-stream-requires : tie.Need-no-stream-requires Inv-loop μ-loop
-no-stream-requires c κs = tt
 
 here : (c : tie.Joined1 Inv-loop μ-loop)
     → c .if1 .s ≡ streamAt (ofStreams (c .before .before .before .args .n) (c .before .before .before .args .t2)) (c .before .before .loop .i)
@@ -42,12 +36,6 @@ unfolding inPhase
 returns c =
     let l = c .before .before .before .before .loop in
     sym (first-found _ _ (l .i) (c .before .before .before .loop-test .taken) (rw (here (c .before .before)) at (eq-eqb _ _ (c .if2 .taken)))) ∙ l .inv .1
-
-add-i : tie.Need-add-i Inv-loop μ-loop
-add-i c = omega arith
-
-loop-less : tie.Need-loop-less Inv-loop μ-loop
-loop-less c = omega arith
 
 loop-again : tie.Need-loop-again Inv-loop μ-loop
 unfolding inPhase
@@ -63,4 +51,5 @@ returns-2 c = sym (first-out _ _ (c .before .loop .i) (c .loop-test .left)) ∙ 
 pub first-in-phase-spec : {M : Type 1} → statement M
 first-in-phase-spec =
     tie.close
-    (tie.spec Inv-loop μ-loop loop-holds mul-s array-copy-out-s no-stream-requires returns add-i loop-less loop-again returns-2)
+    (tie.spec Inv-loop μ-loop loop-holds (λ c. search needs) array-copy-out-s (λ c κs. tt) returns (λ c. omega arith)
+    (λ c. omega arith) loop-again returns-2)

@@ -18,39 +18,12 @@ Inv-loop j ranks n i₀ i = (i ≤ j .held .streams) × (firstBelow (lacksCount 
 abbrev μ-loop : tie.MeasureT-loop
 μ-loop j ranks n i₀ i = j .held .streams - i
 
-newest-ranks-requires : tie.Need-newest-ranks-requires Inv-loop μ-loop
-newest-ranks-requires c κs = tt
-
 loop-holds : tie.Need-loop-holds Inv-loop μ-loop
 unfolding firstLacking
 loop-holds c = (omega arith, refl)
 
-mul-s : tie.Need-mul-s Inv-loop μ-loop
-mul-s c = search needs
-
 element-copy-out-s : tie.Need-element-copy-out-s Inv-loop μ-loop
 element-copy-out-s c = c .if1 .taken
-
-no-stream-requires : tie.Need-no-stream-requires Inv-loop μ-loop
-no-stream-requires c κs = tt
-
-add-rank : tie.Need-add-rank Inv-loop μ-loop
-add-rank c = search needs
-
-mul-rank : tie.Need-mul-rank Inv-loop μ-loop
-mul-rank c = search needs
-
-array-read-rank : tie.Need-array-read-rank Inv-loop μ-loop
-array-read-rank c = search needs
-
-add-newest-rank : tie.Need-add-newest-rank Inv-loop μ-loop
-add-newest-rank c = search needs
-
-newest-rank-requires : tie.Need-newest-rank-requires Inv-loop μ-loop
-newest-rank-requires c κs = tt
-
-lacks-count-requires : tie.Need-lacks-count-requires Inv-loop μ-loop
-lacks-count-requires c κs = tt
 
 here : (c : tie.Joined1 Inv-loop μ-loop) → c .if1 .s ≡ streamAt (c .before .before .before .before .args .t1) (c .before .before .loop .i)
 unfolding streamAt
@@ -72,12 +45,6 @@ returns c =
     let l = c .before .before .before .before .before .loop in
     sym (first-found _ _ (l .i) (c .before .before .before .before .loop-test .taken) (sym (c .before .lacks-count .ensures ∙ lacking (c .before .before)) ∙ c .if3 .taken)) ∙ l .inv .1
 
-add-i : tie.Need-add-i Inv-loop μ-loop
-add-i c = omega arith
-
-loop-less : tie.Need-loop-less Inv-loop μ-loop
-loop-less c = omega arith
-
 loop-again : tie.Need-loop-again Inv-loop μ-loop
 loop-again c =
     let l = c .before .before .before .before .before .loop in (
@@ -91,22 +58,6 @@ returns-2 c = sym (first-out _ _ (c .before .loop .i) (c .loop-test .left)) ∙ 
 pub first-lacking-spec : {M : Type 1} → statement M
 first-lacking-spec =
     tie.close
-    (tie.spec
-    Inv-loop
-    μ-loop
-    newest-ranks-requires
-    loop-holds
-    mul-s
-    element-copy-out-s
-    no-stream-requires
-    add-rank
-    mul-rank
-    array-read-rank
-    add-newest-rank
-    newest-rank-requires
-    lacks-count-requires
-    returns
-    add-i
-    loop-less
-    loop-again
-    returns-2)
+    (tie.spec Inv-loop μ-loop (λ c κs. tt) loop-holds (λ c. search needs) element-copy-out-s (λ c κs. tt) (λ c. search needs)
+    (λ c. search needs) (λ c. search needs) (λ c. search needs) (λ c κs. tt) (λ c κs. tt) returns (λ c. omega arith)
+    (λ c. omega arith) loop-again returns-2)

@@ -13,4 +13,5 @@ unfolding inOrder
 returns-2 c = simp (ne-eqb _ _ (c .if1 .left))
 
 pub in-order-spec : {M : Type 1} → statement M
-in-order-spec = tie.close (tie.spec returns returns-2)
+in-order-spec = tie.close
+    (tie.spec returns returns-2)

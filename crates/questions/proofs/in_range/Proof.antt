@@ -9,22 +9,13 @@ returns : tie.Need-returns
 unfolding inRange
 returns c = simp (eq-eqb _ _ (c .if1 .taken))
 
-stream-in-range-requires : tie.Need-stream-in-range-requires
-stream-in-range-requires c κs = search needs
-
 returns-2 : tie.Need-returns-2
 unfolding inRange
 returns-2 c = simp (ne-eqb _ _ (c .before .before .if1 .left), eq-eqb _ _ (c .before .if2 .taken), c .stream-in-range .ensures)
 
-zone-in-range-requires : tie.Need-zone-in-range-requires
-zone-in-range-requires c κs = search needs
-
 returns-3 : tie.Need-returns-3
 unfolding inRange
 returns-3 c = simp (ne-eqb _ _ (c .before .before .before .if1 .left), ne-eqb _ _ (c .before .before .if2 .left), eq-eqb _ _ (c .before .if3 .taken), c .zone-in-range .ensures)
-
-count-in-range-requires : tie.Need-count-in-range-requires
-count-in-range-requires c κs = search needs
 
 returns-4 : tie.Need-returns-4
 unfolding inRange
@@ -33,11 +24,4 @@ returns-4 c = simp (ne-eqb _ _ (c .before .before .before .if1 .left), ne-eqb _ 
 pub in-range-spec : {M : Type 1} → statement M
 in-range-spec =
     tie.close
-    (tie.spec
-    returns
-    stream-in-range-requires
-    returns-2
-    zone-in-range-requires
-    returns-3
-    count-in-range-requires
-    returns-4)
+    (tie.spec returns (λ c κs. search needs) returns-2 (λ c κs. search needs) returns-3 (λ c κs. search needs) returns-4)

@@ -3,11 +3,9 @@ use borrow.Author.Needs.{needs}
 use Rattle.questions.proofs.lacks_count.Statement.{statement}
 use Rattle.questions.proofs.lacks_count.Tie as tie
 
-is-car-requires : tie.Need-is-car-requires
-is-car-requires c κs = search needs
-
 returns : tie.Need-returns
 returns c = simp (c .is-car .ensures)
 
 pub lacks-count-spec : {M : Type 1} → statement M
-lacks-count-spec = tie.close (tie.spec is-car-requires returns)
+lacks-count-spec = tie.close
+    (tie.spec (λ c κs. search needs) returns)

@@ -9,9 +9,6 @@ returns : tie.Need-returns
 unfolding lengthRight
 returns c = simp (eq-eqb _ _ (c .if1 .taken))
 
-stream-length-right-requires : tie.Need-stream-length-right-requires
-stream-length-right-requires c κs = search needs
-
 returns-2 : tie.Need-returns-2
 unfolding lengthRight
 returns-2 c = simp (ne-eqb _ _ (c .before .before .if1 .left), eq-eqb _ _ (c .before .if2 .taken), c .stream-length-right .ensures)
@@ -26,4 +23,5 @@ returns-4 c = simp (ne-eqb _ _ (c .before .before .if1 .left), ne-eqb _ _ (c .be
 
 pub length-right-spec : {M : Type 1} → statement M
 length-right-spec =
-    tie.close (tie.spec returns stream-length-right-requires returns-2 returns-3 returns-4)
+    tie.close
+    (tie.spec returns (λ c κs. search needs) returns-2 returns-3 returns-4)

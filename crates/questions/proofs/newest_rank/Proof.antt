@@ -20,23 +20,8 @@ abbrev μ-loop : tie.MeasureT-loop
 loop-holds : tie.Need-loop-holds Inv-loop μ-loop
 loop-holds c = (omega arith, sym (largest-none _))
 
-mul-c : tie.Need-mul-c Inv-loop μ-loop
-mul-c c = search needs
-
 element-copy-out-c : tie.Need-element-copy-out-c Inv-loop μ-loop
 element-copy-out-c c = c .if1 .taken
-
-no-count-requires : tie.Need-no-count-requires Inv-loop μ-loop
-no-count-requires c κs = tt
-
-newer-requires : tie.Need-newer-requires Inv-loop μ-loop
-newer-requires c κs = tt
-
-add-i : tie.Need-add-i Inv-loop μ-loop
-add-i c = omega arith
-
-loop-less : tie.Need-loop-less Inv-loop μ-loop
-loop-less c = omega arith
 
 here : (c : tie.Joined1 Inv-loop μ-loop) → c .if1 .c ≡ countAt (c .before .before .before .args .t1) (c .before .before .loop .i)
 unfolding countAt
@@ -58,4 +43,5 @@ returns c =
 pub newest-rank-spec : {M : Type 1} → statement M
 newest-rank-spec =
     tie.close
-    (tie.spec Inv-loop μ-loop loop-holds mul-c element-copy-out-c no-count-requires newer-requires add-i loop-less loop-again returns)
+    (tie.spec Inv-loop μ-loop loop-holds (λ c. search needs) element-copy-out-c (λ c κs. tt) (λ c κs. tt) (λ c. omega arith)
+    (λ c. omega arith) loop-again returns)

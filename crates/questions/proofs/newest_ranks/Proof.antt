@@ -21,38 +21,8 @@ abbrev μ-loop : tie.MeasureT-loop
 loop-holds : tie.Need-loop-holds Inv-loop μ-loop
 loop-holds c = (omega arith, ranks-begin _)
 
-mul-c : tie.Need-mul-c Inv-loop μ-loop
-mul-c c = search needs
-
 element-copy-out-c : tie.Need-element-copy-out-c Inv-loop μ-loop
 element-copy-out-c c = c .if1 .taken
-
-no-count-requires : tie.Need-no-count-requires Inv-loop μ-loop
-no-count-requires c κs = tt
-
-cast-n : tie.Need-cast-n Inv-loop μ-loop
-cast-n c = search needs
-
-mul-best : tie.Need-mul-best Inv-loop μ-loop
-mul-best c = search needs
-
-array-read-best : tie.Need-array-read-best Inv-loop μ-loop
-array-read-best c = search needs
-
-newer-requires : tie.Need-newer-requires Inv-loop μ-loop
-newer-requires c κs = tt
-
-mul-ranks : tie.Need-mul-ranks Inv-loop μ-loop
-mul-ranks c = search needs
-
-array-write-ranks : tie.Need-array-write-ranks Inv-loop μ-loop
-array-write-ranks c = search needs
-
-add-i : tie.Need-add-i Inv-loop μ-loop
-add-i c = omega arith
-
-loop-less : tie.Need-loop-less Inv-loop μ-loop
-loop-less c = omega arith
 
 here : (c : tie.Joined1 Inv-loop μ-loop) → c .if1 .c ≡ countAt (c .before .before .before .args .t1) (c .before .before .loop .i)
 unfolding countAt
@@ -75,4 +45,6 @@ returns c =
 pub newest-ranks-spec : {M : Type 1} → statement M
 newest-ranks-spec =
     tie.close
-    (tie.spec Inv-loop μ-loop loop-holds mul-c element-copy-out-c no-count-requires cast-n mul-best array-read-best newer-requires mul-ranks array-write-ranks add-i loop-less loop-again returns)
+    (tie.spec Inv-loop μ-loop loop-holds (λ c. search needs) element-copy-out-c (λ c κs. tt) (λ c. search needs)
+    (λ c. search needs) (λ c. search needs) (λ c κs. tt) (λ c. search needs) (λ c. search needs) (λ c. omega arith)
+    (λ c. omega arith) loop-again returns)

@@ -13,37 +13,10 @@ returns-2 : tie.Need-returns-2
 unfolding refers
 returns-2 c = λ j w. simp (ne-eqb _ _ (c .before .if1 .left), eq-eqb _ _ (c .if2 .taken))
 
-byte-requires : tie.Need-byte-requires
-byte-requires c κs = search needs
-
-byte-requires-2 : tie.Need-byte-requires-2
-byte-requires-2 c κs = search needs
-
-cast-numbered : tie.Need-cast-numbered
-cast-numbered c = search needs
-
-numbered-requires : tie.Need-numbered-requires
-numbered-requires c κs = search needs
-
-cast-numbered-2 : tie.Need-cast-numbered-2
-cast-numbered-2 c = search needs
-
-numbered-requires-2 : tie.Need-numbered-requires-2
-numbered-requires-2 c κs = search needs
-
 returns-3 : tie.Need-returns-3
 unfolding refers zoneRefers exists
 returns-3 c = λ j w.
     simp (ne-eqb _ _ (c .before .before .before .before .before .before .before .before .if1 .left), ne-eqb _ _ (c .before .before .before .before .before .before .before .if2 .left), eq-eqb _ _ (c .before .before .before .before .before .if3 .taken), c .before .before .numbered2 .ensures, c .before .before .before .numbered .ensures, c .before .before .before .before .byte2 .ensures, c .before .before .before .before .before .before .byte .ensures, w .holds, w .one, w .two)
-
-cast-numbered-3 : tie.Need-cast-numbered-3
-cast-numbered-3 c = search needs
-
-numbered-requires-3 : tie.Need-numbered-requires-3
-numbered-requires-3 c κs = search needs
-
-is-car-requires : tie.Need-is-car-requires
-is-car-requires c κs = search needs
 
 returns-4 : tie.Need-returns-4
 unfolding refers countRefers exists
@@ -53,4 +26,6 @@ returns-4 c = λ j w.
 pub refers-spec : {M : Type 1} → statement M
 refers-spec =
     tie.close
-    (tie.spec returns returns-2 byte-requires byte-requires-2 cast-numbered numbered-requires cast-numbered-2 numbered-requires-2 returns-3 cast-numbered-3 numbered-requires-3 is-car-requires returns-4)
+    (tie.spec returns returns-2 (λ c κs. search needs) (λ c κs. search needs) (λ c. search needs) (λ c κs. search needs)
+    (λ c. search needs) (λ c κs. search needs) returns-3 (λ c. search needs) (λ c κs. search needs) (λ c κs. search needs)
+    returns-4)

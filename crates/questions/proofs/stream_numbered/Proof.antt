@@ -5,18 +5,9 @@ use Rattle.questions.specs.Questions.{streamNumbered}
 use Rattle.questions.proofs.stream_numbered.Statement.{statement}
 use Rattle.questions.proofs.stream_numbered.Tie as tie
 
-no-stream-requires : tie.Need-no-stream-requires
-no-stream-requires c κs = search needs
-
 returns : tie.Need-returns
 unfolding streamNumbered
 returns c = simp (eq-eqb _ _ (c .before .if1 .taken), c .no-stream .ensures)
-
-sub-stream-at : tie.Need-sub-stream-at
-sub-stream-at c = search needs
-
-stream-at-requires : tie.Need-stream-at-requires
-stream-at-requires c κs = search needs
 
 returns-2 : tie.Need-returns-2
 unfolding streamNumbered
@@ -24,4 +15,5 @@ returns-2 c = simp (ne-eqb _ _ (c .before .if1 .left), c .stream-at .ensures)
 
 pub stream-numbered-spec : {M : Type 1} → statement M
 stream-numbered-spec =
-    tie.close (tie.spec no-stream-requires returns sub-stream-at stream-at-requires returns-2)
+    tie.close
+    (tie.spec (λ c κs. search needs) returns (λ c. search needs) (λ c κs. search needs) returns-2)

@@ -21,4 +21,5 @@ unfolding withinLimit
 returns-4 c = simp (ne-eqb _ _ (c .before .before .before .if1 .left), ne-eqb _ _ (c .before .before .if2 .left), ne-eqb _ _ (c .before .if3 .left))
 
 pub within-limit-spec : {M : Type 1} → statement M
-within-limit-spec = tie.close (tie.spec returns returns-2 returns-3 returns-4)
+within-limit-spec = tie.close
+    (tie.spec returns returns-2 returns-3 returns-4)

@@ -5,18 +5,9 @@ use Rattle.questions.specs.Questions.{zoneAt}
 use Rattle.questions.proofs.zone_at.Statement.{statement}
 use Rattle.questions.proofs.zone_at.Tie as tie
 
-mul-result : tie.Need-mul-result
-mul-result c = search needs
-
-element-copy-out-result : tie.Need-element-copy-out-result
-element-copy-out-result c = search needs
-
 returns : tie.Need-returns
 unfolding zoneAt
 returns c = simp (lt-ltb _ _ (c .before .if1 .taken))
-
-no-zone-requires : tie.Need-no-zone-requires
-no-zone-requires c κs = search needs
 
 returns-2 : tie.Need-returns-2
 unfolding zoneAt
@@ -24,4 +15,5 @@ returns-2 c = simp (le-ltb _ _ (c .before .if1 .left), c .no-zone .ensures)
 
 pub zone-at-spec : {M : Type 1} → statement M
 zone-at-spec =
-    tie.close (tie.spec mul-result element-copy-out-result returns no-zone-requires returns-2)
+    tie.close
+    (tie.spec (λ c. search needs) (λ c. search needs) returns (λ c κs. search needs) returns-2)

@@ -4,12 +4,10 @@ use Rattle.reading.specs.Reading.{atEnd}
 use Rattle.reading.proofs.at_end.Statement.{statement}
 use Rattle.reading.proofs.at_end.Tie as tie
 
-whole-verdict-requires : tie.Need-whole-verdict-requires
-whole-verdict-requires c κs = search needs
-
 returns : tie.Need-returns
 unfolding atEnd
 returns c = simp (c .whole-verdict .ensures)
 
 pub at-end-spec : {M : Type 1} → statement M
-at-end-spec = tie.close (tie.spec whole-verdict-requires returns)
+at-end-spec = tie.close
+    (tie.spec (λ c κs. search needs) returns)

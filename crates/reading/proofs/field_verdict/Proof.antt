@@ -6,17 +6,8 @@ use Rattle.questions.specs.Questions.{fieldVerdict}
 use Rattle.reading.proofs.field_verdict.Statement.{statement}
 use Rattle.reading.proofs.field_verdict.Tie as tie
 
-fits-requires : tie.Need-fits-requires
-fits-requires c κs = search needs
-
-shared-slice-read-body-verdict : tie.Need-shared-slice-read-body-verdict
-shared-slice-read-body-verdict c = search needs
-
 body-at-requires : tie.Need-body-at-requires
 body-at-requires c κs = sym (c .before .before .fits2 .ensures) ∙ c .before .if1 .taken
-
-body-verdict-requires : tie.Need-body-verdict-requires
-body-verdict-requires c κs = search needs
 
 returns : tie.Need-returns
 unfolding fieldVerdict byteAt
@@ -31,4 +22,4 @@ returns-2 c = λ j w. simp (sym (c .before .fits2 .ensures) ∙ c .if1 .left)
 pub field-verdict-spec : {M : Type 1} → statement M
 field-verdict-spec =
     tie.close
-    (tie.spec fits-requires shared-slice-read-body-verdict body-at-requires body-verdict-requires returns returns-2)
+    (tie.spec (λ c κs. search needs) (λ c. search needs) body-at-requires (λ c κs. search needs) returns returns-2)

@@ -5,19 +5,14 @@ use Rattle.reading.specs.Reading.{reading}
 use Rattle.reading.proofs.read.Statement.{statement}
 use Rattle.reading.proofs.read.Tie as tie
 
-read-fields-requires : tie.Need-read-fields-requires
-read-fields-requires c κs = search needs
-
 returns : tie.Need-returns
 unfolding reading
 returns c = simp (le-leb _ _ (c .before .if1 .taken), c .read-fields .ensures)
-
-blank-requires : tie.Need-blank-requires
-blank-requires c κs = search needs
 
 returns-2 : tie.Need-returns-2
 unfolding reading
 returns-2 c = simp (lt-leb _ _ (c .before .if1 .left), c .blank .ensures)
 
 pub read-spec : {M : Type 1} → statement M
-read-spec = tie.close (tie.spec read-fields-requires returns blank-requires returns-2)
+read-spec = tie.close
+    (tie.spec (λ c κs. search needs) returns (λ c κs. search needs) returns-2)

@@ -26,9 +26,6 @@ Inv-loop file at₀ j₀ at j = Rest file at j
 abbrev μ-loop : tie.MeasureT-loop
 μ-loop file at₀ j₀ at j = length file - at
 
-blank-requires : tie.Need-blank-requires Inv-loop μ-loop
-blank-requires c κs = tt
-
 loop-holds : tie.Need-loop-holds Inv-loop μ-loop
 loop-holds c = rw (c .blank .ensures) (rest-begins _)
 
@@ -38,29 +35,14 @@ named-place-requires c κs = (c .before .loop-test .taken, omega arith)
 named-place-requires-2 : tie.Need-named-place-requires-2 Inv-loop μ-loop
 named-place-requires-2 c κs = (c .before .before .loop-test .taken, omega arith)
 
-mul-first : tie.Need-mul-first Inv-loop μ-loop
-mul-first c = search needs
-
 element-copy-out-first : tie.Need-element-copy-out-first Inv-loop μ-loop
 element-copy-out-first c = c .if1 .taken
-
-no-stream-requires : tie.Need-no-stream-requires Inv-loop μ-loop
-no-stream-requires c κs = tt
-
-mul-second : tie.Need-mul-second Inv-loop μ-loop
-mul-second c = search needs
 
 element-copy-out-second : tie.Need-element-copy-out-second Inv-loop μ-loop
 element-copy-out-second c = c .if2 .taken
 
-no-stream-requires-2 : tie.Need-no-stream-requires-2 Inv-loop μ-loop
-no-stream-requires-2 c κs = tt
-
 field-verdict-requires : tie.Need-field-verdict-requires Inv-loop μ-loop
 field-verdict-requires c κs = c .before .before .before .before .before .loop-test .taken
-
-refused-requires : tie.Need-refused-requires Inv-loop μ-loop
-refused-requires c κs = tt
 
 -- the file, and the place and the junction at the head of a turn
 abbrev file : tie.Joined1 Inv-loop μ-loop → List ℕ
@@ -123,9 +105,6 @@ body-at-requires c κs = field-passed _ _ _ (passed (c .before)) .0
 field-end-requires : tie.Need-field-end-requires Inv-loop μ-loop
 field-end-requires c κs = c .before .before .before .before .before .before .before .before .before .before .before .loop .inv .inside
 
-design-day-requires : tie.Need-design-day-requires Inv-loop μ-loop
-design-day-requires c κs = tt
-
 loop-less : tie.Need-loop-less Inv-loop μ-loop
 loop-less c = rw (c .before .before .before .field-end .ensures) (shorter (c .before .before .before .before .before .before))
 
@@ -134,9 +113,6 @@ unfolding withField withHeading byteAt
 loop-again c =
     rw (c .before .before .before .field-end .ensures, c .before .design-day .ensures, c .before .before .before .before .body-at .ensures)
     (simp (eq-eqb _ _ (c .before .before .if4 .taken)) at (turned (c .before .before .before .before .before .before)))
-
-stream-of-requires : tie.Need-stream-of-requires Inv-loop μ-loop
-stream-of-requires c κs = tt
 
 element-set-from-j : tie.Need-element-set-from-j Inv-loop μ-loop
 unfolding withinLimit byteAt
@@ -156,9 +132,6 @@ unfolding withField withStream byteAt
 loop-again-2 c =
     rw (c .before .before .before .before .before .field-end .ensures, c .before .before .stream-of .ensures, c .before .before .before .before .before .before .body-at .ensures)
     (simp (ne-eqb _ _ (c .before .before .before .before .if4 .left), eq-eqb _ _ (c .before .before .before .if5 .taken)) at (turned (c .before .before .before .before .before .before .before .before)))
-
-zone-of-requires : tie.Need-zone-of-requires Inv-loop μ-loop
-zone-of-requires c κs = tt
 
 element-set-from-j-2 : tie.Need-element-set-from-j-2 Inv-loop μ-loop
 unfolding withinLimit byteAt
@@ -180,9 +153,6 @@ loop-again-3 c =
     rw (c .before .before .before .before .before .before .field-end .ensures, c .before .before .zone-of .ensures, c .before .before .before .before .before .before .before .body-at .ensures)
     (simp (ne-eqb _ _ (c .before .before .before .before .before .if4 .left), ne-eqb _ _ (c .before .before .before .before .if5 .left), eq-eqb _ _ (c .before .before .before .if6 .taken)) at (turned (c .before .before .before .before .before .before .before .before .before)))
 
-count-of-requires : tie.Need-count-of-requires Inv-loop μ-loop
-count-of-requires c κs = tt
-
 element-set-from-j-3 : tie.Need-element-set-from-j-3 Inv-loop μ-loop
 unfolding withinLimit byteAt
 element-set-from-j-3 c =
@@ -203,54 +173,14 @@ loop-again-4 c =
     rw (c .before .before .before .before .before .before .field-end .ensures, c .before .before .count-of .ensures, c .before .before .before .before .before .before .before .body-at .ensures)
     (simp (ne-eqb _ _ (c .before .before .before .before .before .if4 .left), ne-eqb _ _ (c .before .before .before .before .if5 .left), ne-eqb _ _ (c .before .before .before .if6 .left)) at (turned (c .before .before .before .before .before .before .before .before .before)))
 
-at-end-requires : tie.Need-at-end-requires Inv-loop μ-loop
-at-end-requires c κs = tt
-
 returns-2 : tie.Need-returns-2 Inv-loop μ-loop
 returns-2 c = c .at-end .ensures ∙ rest-ends _ _ _ (c .before .before .loop .inv) (c .before .loop-test .left)
 
 pub read-fields-spec : {M : Type 1} → statement M
 read-fields-spec =
     tie.close
-    (tie.spec
-    Inv-loop
-    μ-loop
-    blank-requires
-    loop-holds
-    named-place-requires
-    named-place-requires-2
-    mul-first
-    element-copy-out-first
-    no-stream-requires
-    mul-second
-    element-copy-out-second
-    no-stream-requires-2
-    field-verdict-requires
-    refused-requires
-    returns
-    shared-slice-read-tag
-    body-at-requires
-    field-end-requires
-    design-day-requires
-    loop-less
-    loop-again
-    stream-of-requires
-    mul-t34
-    element-set-from-j
-    add-j
-    loop-less-2
-    loop-again-2
-    zone-of-requires
-    mul-t38
-    element-set-from-j-2
-    add-j-2
-    loop-less-3
-    loop-again-3
-    count-of-requires
-    mul-t16
-    element-set-from-j-3
-    add-j-3
-    loop-less-4
-    loop-again-4
-    at-end-requires
-    returns-2)
+    (tie.spec Inv-loop μ-loop (λ c κs. tt) loop-holds named-place-requires named-place-requires-2 (λ c. search needs)
+    element-copy-out-first (λ c κs. tt) (λ c. search needs) element-copy-out-second (λ c κs. tt) field-verdict-requires
+    (λ c κs. tt) returns shared-slice-read-tag body-at-requires field-end-requires (λ c κs. tt) loop-less loop-again
+    (λ c κs. tt) mul-t34 element-set-from-j add-j loop-less-2 loop-again-2 (λ c κs. tt) mul-t38 element-set-from-j-2 add-j-2
+    loop-less-3 loop-again-3 (λ c κs. tt) mul-t16 element-set-from-j-3 add-j-3 loop-less-4 loop-again-4 (λ c κs. tt) returns-2)

@@ -9,12 +9,10 @@ returns : tie.Need-returns
 unfolding streamPlace
 returns c = simp (eq-eqb _ _ (c .if1 .taken))
 
-sub-result : tie.Need-sub-result
-sub-result c = search needs
-
 returns-2 : tie.Need-returns-2
 unfolding streamPlace
 returns-2 c = simp (ne-eqb _ _ (c .if1 .left))
 
 pub stream-place-spec : {M : Type 1} → statement M
-stream-place-spec = tie.close (tie.spec returns sub-result returns-2)
+stream-place-spec = tie.close
+    (tie.spec returns (λ c. search needs) returns-2)

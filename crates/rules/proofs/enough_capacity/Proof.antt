@@ -9,9 +9,6 @@ use Rattle.rules.proofs.enough_capacity.Tie as tie
 mul-result : tie.Need-mul-result
 mul-result c = omega (arith, mul-le-mul (le-of-lt (c .fits .flow .fits)) (le-of-lt (c .fits .cycle .fits)))
 
-add-result : tie.Need-add-result
-add-result c = search needs
-
 mul-result-2 : tie.Need-mul-result-2
 mul-result-2 c = omega (arith, mul-le-mul (le-of-lt (c .fits .saturation .fits)) (c .fits .length .fits))
 
@@ -20,4 +17,5 @@ unfolding enoughCapacity
 returns c = search needs
 
 pub enough-capacity-spec : {M : Type 1} → statement M
-enough-capacity-spec = tie.close (tie.spec mul-result add-result mul-result-2 returns)
+enough-capacity-spec = tie.close
+    (tie.spec mul-result (λ c. search needs) mul-result-2 returns)

@@ -35,9 +35,6 @@ mul-enough-green-2 c = omega (arith, c .before .before .before .pre .fields .few
 element-copy-out-enough-green-2 : tie.Need-element-copy-out-enough-green-2 Inv-loop μ-loop
 element-copy-out-enough-green-2 c = omega (arith, c .before .before .before .pre .fields .fewStreams)
 
-enough-green-requires : tie.Need-enough-green-requires Inv-loop μ-loop
-enough-green-requires c κs = tt
-
 here : (c : tie.After-enough-green Inv-loop μ-loop) → c .enough-green .result ≡ needMet (c .before .before .before .before .before .args .t1) (c .before .before .before .before .before .args .t2) (c .before .before .before .before .loop .i + 1)
 unfolding needMet
 here c =
@@ -50,12 +47,6 @@ returns c =
     let l = c .before .before .before .before .before .loop in
     sym (first-found _ _ (l .i) (c .before .before .before .before .loop-test .taken) (ap not (sym (here (c .before))) ∙ c .if1 .taken)) ∙ l .inv .1
 
-add-i : tie.Need-add-i Inv-loop μ-loop
-add-i c = omega arith
-
-loop-less : tie.Need-loop-less Inv-loop μ-loop
-loop-less c = omega arith
-
 loop-again : tie.Need-loop-again Inv-loop μ-loop
 loop-again c =
     let l = c .before .before .before .before .before .loop in
@@ -67,17 +58,5 @@ returns-2 c = sym (first-out _ _ (c .before .loop .i) (c .loop-test .left)) ∙ 
 pub first-short-spec : {M : Type 1} → statement M
 first-short-spec =
     tie.close
-    (tie.spec
-    Inv-loop
-    μ-loop
-    loop-holds
-    mul-enough-green
-    element-copy-out-enough-green
-    mul-enough-green-2
-    element-copy-out-enough-green-2
-    enough-green-requires
-    returns
-    add-i
-    loop-less
-    loop-again
-    returns-2)
+    (tie.spec Inv-loop μ-loop loop-holds mul-enough-green element-copy-out-enough-green mul-enough-green-2
+    element-copy-out-enough-green-2 (λ c κs. tt) returns (λ c. omega arith) (λ c. omega arith) loop-again returns-2)

@@ -43,14 +43,8 @@ mul-z c = omega (arith, c .before .before .pre .fields .fewZones)
 element-copy-out-z : tie.Need-element-copy-out-z Inv-loop2 μ-loop2 Inv-loop μ-loop
 element-copy-out-z c = omega (arith, c .before .before .pre .fields .fewZones)
 
-cast-a : tie.Need-cast-a Inv-loop2 μ-loop2 Inv-loop μ-loop
-cast-a c = search needs
-
 sub-a : tie.Need-sub-a Inv-loop2 μ-loop2 Inv-loop μ-loop
 sub-a c = zone-right (c .before .before .before .before .args .t1) (c .before .before .before .before .pre) (c .before .before .before .loop .i) (c .before .before .loop-test .taken) .a .existing .0
-
-cast-b : tie.Need-cast-b Inv-loop2 μ-loop2 Inv-loop μ-loop
-cast-b c = search needs
 
 sub-b : tie.Need-sub-b Inv-loop2 μ-loop2 Inv-loop μ-loop
 sub-b c = zone-right (c .before .before .before .before .before .args .t1) (c .before .before .before .before .before .pre) (c .before .before .before .before .loop .i) (c .before .before .before .loop-test .taken) .b .existing .0
@@ -67,9 +61,6 @@ mul-second c = omega (arith, c .before .before .before .before .before .before .
 element-copy-out-second : tie.Need-element-copy-out-second Inv-loop2 μ-loop2 Inv-loop μ-loop
 element-copy-out-second c = omega (arith, c .before .before .before .before .before .before .pre .fields .fewStreams, zone-right (c .before .before .before .before .before .before .args .t1) (c .before .before .before .before .before .before .pre) (c .before .before .before .before .before .loop .i) (c .before .before .before .before .loop-test .taken) .b .existing)
 
-opened-requires : tie.Need-opened-requires Inv-loop2 μ-loop2 Inv-loop μ-loop
-opened-requires c κs = tt
-
 loop2-holds : tie.Need-loop2-holds Inv-loop2 μ-loop2 Inv-loop μ-loop
 loop2-holds c = (omega arith, c .opened .ensures ∙ pair-opened (c .before .before .before .before .before .before .before .before .args .t1) (getD (c .before .before .before .before .before .before .before .before .args .t1 .zones) (c .before .before .before .before .before .before .before .loop .i) noZone))
 
@@ -78,12 +69,6 @@ mul-y c = omega (arith, c .before .before .before .before .before .before .befor
 
 element-copy-out-y : tie.Need-element-copy-out-y Inv-loop2 μ-loop2 Inv-loop μ-loop
 element-copy-out-y c = omega (arith, c .before .before .before .before .before .before .before .before .before .before .pre .fields .fewZones)
-
-same-pair-requires : tie.Need-same-pair-requires Inv-loop2 μ-loop2 Inv-loop μ-loop
-same-pair-requires c κs = tt
-
-widened-requires : tie.Need-widened-requires Inv-loop2 μ-loop2 Inv-loop μ-loop
-widened-requires c κs = tt
 
 add-k : tie.Need-add-k Inv-loop2 μ-loop2 Inv-loop μ-loop
 add-k c = omega (arith, c .before .before .before .loop2-test .taken, c .before .before .before .before .before .before .before .before .before .before .before .before .before .pre .fields .fewZones)
@@ -117,9 +102,6 @@ mul-zone-clear-2 c = omega (arith, c .before .before .before .before .before .be
 
 element-copy-out-zone-clear-2 : tie.Need-element-copy-out-zone-clear-2 Inv-loop2 μ-loop2 Inv-loop μ-loop
 element-copy-out-zone-clear-2 c = omega (arith, c .before .before .before .before .before .before .before .before .before .before .before .pre .fields .fewStreams, zone-right (c .before .before .before .before .before .before .before .before .before .before .before .args .t1) (c .before .before .before .before .before .before .before .before .before .before .before .pre) (c .before .before .before .before .before .before .before .before .before .before .loop .i) (c .before .before .before .before .before .before .before .before .before .loop-test .taken) .b .existing)
-
-zone-clear-requires : tie.Need-zone-clear-requires Inv-loop2 μ-loop2 Inv-loop μ-loop
-zone-clear-requires c κs = tt
 
 here : (c : tie.After-zone-clear Inv-loop2 μ-loop2 Inv-loop μ-loop) → c .zone-clear .result ≡ zoneMet (c .before .before .before .before .before .before .before .before .before .before .before .before .before .args .t1) (c .before .before .before .before .before .before .before .before .before .before .before .before .before .args .t2) (c .before .before .before .before .before .before .before .before .before .before .before .before .loop .i + 1)
 unfolding zoneMet
@@ -159,38 +141,7 @@ returns-2 c = sym (first-out _ _ (c .before .loop .i) (c .loop-test .left)) ∙ 
 pub first-unclear-spec : {M : Type 1} → statement M
 first-unclear-spec =
     tie.close
-    (tie.spec
-    Inv-loop2
-    μ-loop2
-    Inv-loop
-    μ-loop
-    loop-holds
-    mul-z
-    element-copy-out-z
-    cast-a
-    sub-a
-    cast-b
-    sub-b
-    mul-first
-    element-copy-out-first
-    mul-second
-    element-copy-out-second
-    opened-requires
-    loop2-holds
-    mul-y
-    element-copy-out-y
-    same-pair-requires
-    widened-requires
-    add-k
-    loop2-less
-    loop2-again
-    mul-zone-clear
-    element-copy-out-zone-clear
-    mul-zone-clear-2
-    element-copy-out-zone-clear-2
-    zone-clear-requires
-    returns
-    add-i
-    loop-less
-    loop-again
-    returns-2)
+    (tie.spec Inv-loop2 μ-loop2 Inv-loop μ-loop loop-holds mul-z element-copy-out-z (λ c. search needs) sub-a
+    (λ c. search needs) sub-b mul-first element-copy-out-first mul-second element-copy-out-second (λ c κs. tt) loop2-holds mul-y
+    element-copy-out-y (λ c κs. tt) (λ c κs. tt) add-k loop2-less loop2-again mul-zone-clear element-copy-out-zone-clear
+    mul-zone-clear-2 element-copy-out-zone-clear-2 (λ c κs. tt) returns add-i loop-less loop-again returns-2)

@@ -41,9 +41,6 @@ mul-served-3 c = omega (arith, c .before .before .before .before .pre .0 .fields
 element-copy-out-served-3 : tie.Need-element-copy-out-served-3 Inv-loop μ-loop
 element-copy-out-served-3 c = omega (arith, c .before .before .before .before .pre .0 .fields .fewStreams)
 
-served-requires : tie.Need-served-requires Inv-loop μ-loop
-served-requires c κs = tt
-
 here : (c : tie.After-served Inv-loop μ-loop) → c .served .result ≡ capacityMet (c .before .before .before .before .before .before .args .t1) (c .before .before .before .before .before .before .args .t3) (c .before .before .before .before .before .loop .i + 1)
 unfolding capacityMet
 here c =
@@ -56,12 +53,6 @@ returns c =
     let l = c .before .before .before .before .before .before .loop in
     sym (first-found _ _ (l .i) (c .before .before .before .before .before .loop-test .taken) (ap not (sym (here (c .before))) ∙ c .if1 .taken)) ∙ l .inv .1
 
-add-i : tie.Need-add-i Inv-loop μ-loop
-add-i c = omega arith
-
-loop-less : tie.Need-loop-less Inv-loop μ-loop
-loop-less c = omega arith
-
 loop-again : tie.Need-loop-again Inv-loop μ-loop
 loop-again c =
     let l = c .before .before .before .before .before .before .loop in
@@ -73,19 +64,5 @@ returns-2 c = sym (first-out _ _ (c .before .loop .i) (c .loop-test .left)) ∙ 
 pub first-unserved-spec : {M : Type 1} → statement M
 first-unserved-spec =
     tie.close
-    (tie.spec
-    Inv-loop
-    μ-loop
-    loop-holds
-    mul-served
-    element-copy-out-served
-    mul-served-2
-    element-copy-out-served-2
-    mul-served-3
-    element-copy-out-served-3
-    served-requires
-    returns
-    add-i
-    loop-less
-    loop-again
-    returns-2)
+    (tie.spec Inv-loop μ-loop loop-holds mul-served element-copy-out-served mul-served-2 element-copy-out-served-2 mul-served-3
+    element-copy-out-served-3 (λ c κs. tt) returns (λ c. omega arith) (λ c. omega arith) loop-again returns-2)

@@ -6,22 +6,14 @@ use Rattle.rules.specs.Rules.{off}
 use Rattle.rules.proofs.off.Statement.{statement}
 use Rattle.rules.proofs.off.Tie as tie
 
-sub-result : tie.Need-sub-result
-sub-result c = search needs
-
 returns : tie.Need-returns
 unfolding off
 returns c = (simp (le-leb _ _ (c .if1 .taken)), omega arith)
-
-add-above : tie.Need-add-above
-add-above c = search needs
-
-above-requires : tie.Need-above-requires
-above-requires c κs = search needs
 
 returns-2 : tie.Need-returns-2
 unfolding off
 returns-2 c = (simp (lt-leb _ _ (c .before .if1 .left), c .above .ensures), omega (arith, c .above .ensures))
 
 pub off-spec : {M : Type 1} → statement M
-off-spec = tie.close (tie.spec sub-result returns add-above above-requires returns-2)
+off-spec = tie.close
+    (tie.spec (λ c. search needs) returns (λ c. search needs) (λ c κs. search needs) returns-2)

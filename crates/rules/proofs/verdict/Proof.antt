@@ -7,18 +7,12 @@ use Rattle.rules.specs.Rules.{rulesVerdict}
 use Rattle.rules.proofs.verdict.Statement.{statement}
 use Rattle.rules.proofs.verdict.Tie as tie
 
-first-short-requires : tie.Need-first-short-requires
-first-short-requires c κs = search needs
-
 broken-requires : tie.Need-broken-requires
 broken-requires c κs = omega (arith, c .before .before .pre .fields .fewStreams)
 
 returns : tie.Need-returns
 unfolding rulesVerdict askEach
 returns c = let e = c .before .before .first-short .ensures in simp (c .broken .ensures, e, lt-leb _ _ (rw e at (c .before .if1 .taken)))
-
-loads-of-requires : tie.Need-loads-of-requires
-loads-of-requires c κs = search needs
 
 first-unserved-requires : tie.Need-first-unserved-requires
 first-unserved-requires c κs = (c .before .before .before .pre, c .loads-of .ensures)
@@ -32,9 +26,6 @@ returns-2 c =
     let d = c .before .before .before .before .before .first-short .ensures in
     let e = c .before .before .first-unserved .ensures in
     simp (le-leb _ _ (rw d at (c .before .before .before .before .if1 .left)), c .broken2 .ensures, e, lt-leb _ _ (rw e at (c .before .if2 .taken)))
-
-first-unclear-requires : tie.Need-first-unclear-requires
-first-unclear-requires c κs = search needs
 
 broken-requires-3 : tie.Need-broken-requires-3
 broken-requires-3 c κs = omega (arith, c .before .before .before .before .before .before .before .pre .fields .fewZones)
@@ -58,15 +49,5 @@ returns-4 c =
 pub verdict-spec : {M : Type 1} → statement M
 verdict-spec =
     tie.close
-    (tie.spec
-    first-short-requires
-    broken-requires
-    returns
-    loads-of-requires
-    first-unserved-requires
-    broken-requires-2
-    returns-2
-    first-unclear-requires
-    broken-requires-3
-    returns-3
-    returns-4)
+    (tie.spec (λ c κs. search needs) broken-requires returns (λ c κs. search needs) first-unserved-requires broken-requires-2
+    returns-2 (λ c κs. search needs) broken-requires-3 returns-3 returns-4)

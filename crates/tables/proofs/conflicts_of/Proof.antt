@@ -29,9 +29,6 @@ Inv-loop j zones all₀ i₀ all i =
 abbrev μ-loop : tie.MeasureT-loop
 μ-loop j zones all₀ i₀ all i = j .held .zones - i
 
-no-conflict-requires : tie.Need-no-conflict-requires Inv-loop2 μ-loop2 Inv-loop μ-loop
-no-conflict-requires c κs = tt
-
 loop-holds : tie.Need-loop-holds Inv-loop2 μ-loop2 Inv-loop μ-loop
 loop-holds c = (omega arith, simp (c .no-conflict .ensures, filled-none))
 
@@ -40,9 +37,6 @@ mul-z c = omega (arith, c .before .before .before .pre .fields .fewZones)
 
 element-copy-out-z : tie.Need-element-copy-out-z Inv-loop2 μ-loop2 Inv-loop μ-loop
 element-copy-out-z c = omega (arith, c .before .before .before .pre .fields .fewZones)
-
-cast-first : tie.Need-cast-first Inv-loop2 μ-loop2 Inv-loop μ-loop
-cast-first c = search needs
 
 sub-first : tie.Need-sub-first Inv-loop2 μ-loop2 Inv-loop μ-loop
 sub-first c = zone-right (c .before .before .before .before .before .args .t1) (c .before .before .before .before .before .pre) (c .before .before .before .loop .i) (c .before .before .loop-test .taken) .a .existing .0
@@ -53,9 +47,6 @@ mul-first c = omega (arith, c .before .before .before .before .before .pre .fiel
 element-copy-out-first : tie.Need-element-copy-out-first Inv-loop2 μ-loop2 Inv-loop μ-loop
 element-copy-out-first c = omega (arith, c .before .before .before .before .before .pre .fields .fewStreams, zone-right (c .before .before .before .before .before .args .t1) (c .before .before .before .before .before .pre) (c .before .before .before .loop .i) (c .before .before .loop-test .taken) .a .existing)
 
-cast-second : tie.Need-cast-second Inv-loop2 μ-loop2 Inv-loop μ-loop
-cast-second c = search needs
-
 sub-second : tie.Need-sub-second Inv-loop2 μ-loop2 Inv-loop μ-loop
 sub-second c = zone-right (c .before .before .before .before .before .before .before .args .t1) (c .before .before .before .before .before .before .before .pre) (c .before .before .before .before .before .loop .i) (c .before .before .before .before .loop-test .taken) .b .existing .0
 
@@ -65,9 +56,6 @@ mul-second c = omega (arith, c .before .before .before .before .before .before .
 element-copy-out-second : tie.Need-element-copy-out-second Inv-loop2 μ-loop2 Inv-loop μ-loop
 element-copy-out-second c = omega (arith, c .before .before .before .before .before .before .before .pre .fields .fewStreams, zone-right (c .before .before .before .before .before .before .before .args .t1) (c .before .before .before .before .before .before .before .pre) (c .before .before .before .before .before .loop .i) (c .before .before .before .before .loop-test .taken) .b .existing)
 
-opened-requires : tie.Need-opened-requires Inv-loop2 μ-loop2 Inv-loop μ-loop
-opened-requires c κs = tt
-
 loop2-holds : tie.Need-loop2-holds Inv-loop2 μ-loop2 Inv-loop μ-loop
 loop2-holds c = (omega arith, c .opened .ensures ∙ pair-opened (c .before .before .before .before .before .before .before .before .before .args .t1) (getD (c .before .before .before .before .before .before .before .before .before .args .t1 .zones) (c .before .before .before .before .before .before .before .loop .i) noZone))
 
@@ -76,12 +64,6 @@ mul-y c = omega (arith, c .before .before .before .before .before .before .befor
 
 element-copy-out-y : tie.Need-element-copy-out-y Inv-loop2 μ-loop2 Inv-loop μ-loop
 element-copy-out-y c = omega (arith, c .before .before .before .before .before .before .before .before .before .before .before .pre .fields .fewZones)
-
-same-pair-requires : tie.Need-same-pair-requires Inv-loop2 μ-loop2 Inv-loop μ-loop
-same-pair-requires c κs = tt
-
-widened-requires : tie.Need-widened-requires Inv-loop2 μ-loop2 Inv-loop μ-loop
-widened-requires c κs = tt
 
 add-k : tie.Need-add-k Inv-loop2 μ-loop2 Inv-loop μ-loop
 add-k c = omega (arith, c .before .before .before .loop2-test .taken, c .before .before .before .before .before .before .before .before .before .before .before .before .before .before .pre .fields .fewZones)
@@ -134,35 +116,7 @@ returns c =
 pub conflicts-of-spec : {M : Type 1} → statement M
 conflicts-of-spec =
     tie.close
-    (tie.spec
-    Inv-loop2
-    μ-loop2
-    Inv-loop
-    μ-loop
-    no-conflict-requires
-    loop-holds
-    mul-z
-    element-copy-out-z
-    cast-first
-    sub-first
-    mul-first
-    element-copy-out-first
-    cast-second
-    sub-second
-    mul-second
-    element-copy-out-second
-    opened-requires
-    loop2-holds
-    mul-y
-    element-copy-out-y
-    same-pair-requires
-    widened-requires
-    add-k
-    loop2-less
-    loop2-again
-    mul-c
-    element-set-from-c
-    add-i
-    loop-less
-    loop-again
-    returns)
+    (tie.spec Inv-loop2 μ-loop2 Inv-loop μ-loop (λ c κs. tt) loop-holds mul-z element-copy-out-z (λ c. search needs) sub-first
+    mul-first element-copy-out-first (λ c. search needs) sub-second mul-second element-copy-out-second (λ c κs. tt) loop2-holds
+    mul-y element-copy-out-y (λ c κs. tt) (λ c κs. tt) add-k loop2-less loop2-again mul-c element-set-from-c add-i loop-less
+    loop-again returns)

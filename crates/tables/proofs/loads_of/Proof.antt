@@ -18,17 +18,8 @@ Inv-loop j streams ranks all₀ i₀ all i =
 abbrev μ-loop : tie.MeasureT-loop
 μ-loop j streams ranks all₀ i₀ all i = j .held .streams - i
 
-newest-ranks-requires : tie.Need-newest-ranks-requires Inv-loop μ-loop
-newest-ranks-requires c κs = tt
-
-no-load-requires : tie.Need-no-load-requires Inv-loop μ-loop
-no-load-requires c κs = tt
-
 loop-holds : tie.Need-loop-holds Inv-loop μ-loop
 loop-holds c = (omega arith, simp (c .no-load .ensures, filled-none))
-
-add-load-by : tie.Need-add-load-by Inv-loop μ-loop
-add-load-by c = omega arith
 
 mul-load-by : tie.Need-mul-load-by Inv-loop μ-loop
 mul-load-by c = omega (arith, c .before .before .before .before .pre .fields .fewStreams)
@@ -42,20 +33,11 @@ mul-load-by-2 c = omega (arith, c .before .before .before .before .pre .fields .
 element-copy-out-load-by : tie.Need-element-copy-out-load-by Inv-loop μ-loop
 element-copy-out-load-by c = omega (arith, c .before .before .before .before .pre .fields .fewStreams)
 
-load-by-requires : tie.Need-load-by-requires Inv-loop μ-loop
-load-by-requires c κs = tt
-
 mul-t22 : tie.Need-mul-t22 Inv-loop μ-loop
 mul-t22 c = omega (arith, c .before .before .before .before .before .before .pre .fields .fewStreams)
 
 element-set-from-all : tie.Need-element-set-from-all Inv-loop μ-loop
 element-set-from-all c = omega (arith, c .before .before .before .before .before .before .pre .fields .fewStreams)
-
-add-i : tie.Need-add-i Inv-loop μ-loop
-add-i c = omega arith
-
-loop-less : tie.Need-loop-less Inv-loop μ-loop
-loop-less c = omega arith
 
 loop-again : tie.Need-loop-again Inv-loop μ-loop
 unfolding streamFlow streamSaturation streamRatio
@@ -76,21 +58,6 @@ returns c =
 pub loads-of-spec : {M : Type 1} → statement M
 loads-of-spec =
     tie.close
-    (tie.spec
-    Inv-loop
-    μ-loop
-    newest-ranks-requires
-    no-load-requires
-    loop-holds
-    add-load-by
-    mul-load-by
-    array-read-load-by
-    mul-load-by-2
-    element-copy-out-load-by
-    load-by-requires
-    mul-t22
-    element-set-from-all
-    add-i
-    loop-less
-    loop-again
-    returns)
+    (tie.spec Inv-loop μ-loop (λ c κs. tt) (λ c κs. tt) loop-holds (λ c. omega arith) mul-load-by array-read-load-by
+    mul-load-by-2 element-copy-out-load-by (λ c κs. tt) mul-t22 element-set-from-all (λ c. omega arith) (λ c. omega arith)
+    loop-again returns)

@@ -5,22 +5,13 @@ use Rattle.times.specs.Times.{carLeaving}
 use Rattle.times.proofs.car_leaving.Statement.{statement}
 use Rattle.times.proofs.car_leaving.Tie as tie
 
-car-time-requires : tie.Need-car-time-requires
-car-time-requires c κs = search needs
-
 returns : tie.Need-returns
 unfolding carLeaving
 returns c = record { same = simp (eq-eqb _ _ (c .before .if1 .taken), c .car-time .ensures .same); small = c .car-time .ensures .small }
 
-car-time-requires-2 : tie.Need-car-time-requires-2
-car-time-requires-2 c κs = search needs
-
 returns-2 : tie.Need-returns-2
 unfolding carLeaving
 returns-2 c = record { same = simp (ne-eqb _ _ (c .before .before .before .if1 .left), lt-ltb _ _ (c .before .if2 .taken), c .car-time2 .ensures .same); small = c .car-time2 .ensures .small }
-
-car-time-requires-3 : tie.Need-car-time-requires-3
-car-time-requires-3 c κs = search needs
 
 returns-3 : tie.Need-returns-3
 unfolding carLeaving
@@ -29,10 +20,4 @@ returns-3 c = record { same = simp (ne-eqb _ _ (c .before .before .before .if1 .
 pub car-leaving-spec : {M : Type 1} → statement M
 car-leaving-spec =
     tie.close
-    (tie.spec
-    car-time-requires
-    returns
-    car-time-requires-2
-    returns-2
-    car-time-requires-3
-    returns-3)
+    (tie.spec (λ c κs. search needs) returns (λ c κs. search needs) returns-2 (λ c κs. search needs) returns-3)

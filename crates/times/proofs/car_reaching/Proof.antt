@@ -5,19 +5,14 @@ use Rattle.times.specs.Times.{carReaching}
 use Rattle.times.proofs.car_reaching.Statement.{statement}
 use Rattle.times.proofs.car_reaching.Tie as tie
 
-passing-requires : tie.Need-passing-requires
-passing-requires c κs = search needs
-
 returns : tie.Need-returns
 unfolding carReaching
 returns c = record { same = simp (c .before .if1 .taken, c .passing .ensures .same); small = c .passing .ensures .small }
-
-add-t5 : tie.Need-add-t5
-add-t5 c = search needs
 
 returns-2 : tie.Need-returns-2
 unfolding carReaching
 returns-2 c = record { same = simp (c .if1 .left); small = record { above = omega arith; below = omega arith; off = omega arith } }
 
 pub car-reaching-spec : {M : Type 1} → statement M
-car-reaching-spec = tie.close (tie.spec passing-requires returns add-t5 returns-2)
+car-reaching-spec = tie.close
+    (tie.spec (λ c κs. search needs) returns (λ c. search needs) returns-2)

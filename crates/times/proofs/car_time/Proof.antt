@@ -16,20 +16,11 @@ amber-small c = mul-le-mul {n₂ = 2 ^ 8} (omega arith) (le-of-lt (c .fits .spee
 mul-plain : tie.Need-mul-plain
 mul-plain c = omega (arith, approach-small c)
 
-add-plain : tie.Need-add-plain
-add-plain c = search needs
-
 add-plain-2 : tie.Need-add-plain-2
 add-plain-2 c = omega (arith, approach-small c)
 
-add-raised : tie.Need-add-raised
-add-raised c = search needs
-
 mul-raised : tie.Need-mul-raised
 mul-raised c = omega (arith, amber-small c)
-
-larger-requires : tie.Need-larger-requires
-larger-requires c κs = search needs
 
 returns : tie.Need-returns
 unfolding carTime
@@ -42,4 +33,4 @@ returns c =
 pub car-time-spec : {M : Type 1} → statement M
 car-time-spec =
     tie.close
-    (tie.spec mul-plain add-plain add-plain-2 add-raised mul-raised larger-requires returns)
+    (tie.spec mul-plain (λ c. search needs) add-plain-2 (λ c. search needs) mul-raised (λ c κs. search needs) returns)

@@ -13,4 +13,5 @@ unfolding countedReaching
 returns-2 c = record { same = simp (c .if1 .left); small = record { above = omega arith; below = omega arith } }
 
 pub counted-reaching-spec : {M : Type 1} → statement M
-counted-reaching-spec = tie.close (tie.spec returns returns-2)
+counted-reaching-spec = tie.close
+    (tie.spec returns returns-2)

@@ -18,9 +18,6 @@ loop-holds : tie.Need-loop-holds Inv-loop μ-loop
 unfolding leastGap
 loop-holds c = (omega arith, refl)
 
-cast-within : tie.Need-cast-within Inv-loop μ-loop
-cast-within c = omega arith
-
 within-requires : tie.Need-within-requires Inv-loop μ-loop
 within-requires c κs = let p = c .before .before .pre in (p .0, (p .1, omega arith))
 
@@ -28,12 +25,6 @@ returns : tie.Need-returns Inv-loop μ-loop
 returns c =
     let l = c .before .before .before .loop in
     sym (first-found (within _ _) 65535 (l .gap) (omega arith) (sym (c .before .within .ensures) ∙ c .if1 .taken)) ∙ l .inv .1
-
-add-gap : tie.Need-add-gap Inv-loop μ-loop
-add-gap c = omega arith
-
-loop-less : tie.Need-loop-less Inv-loop μ-loop
-loop-less c = omega arith
 
 loop-again : tie.Need-loop-again Inv-loop μ-loop
 loop-again c =
@@ -48,14 +39,5 @@ returns-2 c = sym (first-out (within _ _) 65535 (c .before .loop .gap) (c .loop-
 pub least-gap-spec : {M : Type 1} → statement M
 least-gap-spec =
     tie.close
-    (tie.spec
-    Inv-loop
-    μ-loop
-    loop-holds
-    cast-within
-    within-requires
-    returns
-    add-gap
-    loop-less
-    loop-again
-    returns-2)
+    (tie.spec Inv-loop μ-loop loop-holds (λ c. omega arith) within-requires returns (λ c. omega arith) (λ c. omega arith)
+    loop-again returns-2)

@@ -5,30 +5,6 @@ use Rattle.times.specs.Times.{leaving}
 use Rattle.times.proofs.leaving.Statement.{statement}
 use Rattle.times.proofs.leaving.Tie as tie
 
-enum-known-kind : tie.Need-enum-known-kind
-enum-known-kind c = search needs
-
-car-leaving-requires : tie.Need-car-leaving-requires
-car-leaving-requires c κs = search needs
-
-enum-known-kind-2 : tie.Need-enum-known-kind-2
-enum-known-kind-2 c = search needs
-
-tram-leaving-requires : tie.Need-tram-leaving-requires
-tram-leaving-requires c κs = search needs
-
-enum-known-kind-3 : tie.Need-enum-known-kind-3
-enum-known-kind-3 c = search needs
-
-cast-t9 : tie.Need-cast-t9
-cast-t9 c = search needs
-
-enum-known-kind-4 : tie.Need-enum-known-kind-4
-enum-known-kind-4 c = search needs
-
-add-t11 : tie.Need-add-t11
-add-t11 c = search needs
-
 returns : tie.Need-returns
 unfolding leaving
 returns c = record { same = simp (c .before .before .kind .given .1, c .car-leaving .ensures .same); small = c .car-leaving .ensures .small }
@@ -48,16 +24,5 @@ returns-4 c = record { same = simp (c .before .kind4 .given .1); small = record 
 pub leaving-spec : {M : Type 1} → statement M
 leaving-spec =
     tie.close
-    (tie.spec
-    enum-known-kind
-    car-leaving-requires
-    enum-known-kind-2
-    tram-leaving-requires
-    enum-known-kind-3
-    cast-t9
-    enum-known-kind-4
-    add-t11
-    returns
-    returns-2
-    returns-3
-    returns-4)
+    (tie.spec (λ c. search needs) (λ c κs. search needs) (λ c. search needs) (λ c κs. search needs) (λ c. search needs)
+    (λ c. search needs) (λ c. search needs) (λ c. search needs) returns returns-2 returns-3 returns-4)

@@ -6,12 +6,10 @@ use Rattle.times.specs.Times.{passing}
 use Rattle.times.proofs.passing.Statement.{statement}
 use Rattle.times.proofs.passing.Tie as tie
 
-mul-thousandths : tie.Need-mul-thousandths
-mul-thousandths c = search needs
-
 returns : tie.Need-returns
 unfolding passing
 returns c = record { same = refl; small = record { above = omega arith; below = omega arith } }
 
 pub passing-spec : {M : Type 1} → statement M
-passing-spec = tie.close (tie.spec mul-thousandths returns)
+passing-spec = tie.close
+    (tie.spec (λ c. search needs) returns)

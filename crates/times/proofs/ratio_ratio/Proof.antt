@@ -32,4 +32,5 @@ returns c = search needs
 
 pub ratio-ratio-spec : {M : Type 1} → statement M
 ratio-ratio-spec =
-    tie.close (tie.spec mul-result mul-result-2 mul-result-3 mul-result-4 add-result returns)
+    tie.close
+    (tie.spec mul-result mul-result-2 mul-result-3 mul-result-4 add-result returns)

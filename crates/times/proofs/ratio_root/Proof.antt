@@ -19,9 +19,6 @@ add-above c = omega (arith, mul-le-mul (c .pre .1 .0 .off) (c .pre .0 .below))
 mul-above-2 : tie.Need-mul-above-2
 mul-above-2 c = omega (arith, mul-le-mul (c .pre .1 .1) (c .pre .0 .below))
 
-above-requires : tie.Need-above-requires
-above-requires c κs = search needs
-
 mul-result : tie.Need-mul-result
 mul-result c = omega (arith, mul-le-mul (side-small c) (side-small c))
 
@@ -42,13 +39,4 @@ returns c = simp (c .above .ensures)
 pub ratio-root-spec : {M : Type 1} → statement M
 ratio-root-spec =
     tie.close
-    (tie.spec
-    mul-above
-    add-above
-    mul-above-2
-    above-requires
-    mul-result
-    mul-result-2
-    mul-result-3
-    mul-result-4
-    returns)
+    (tie.spec mul-above add-above mul-above-2 (λ c κs. search needs) mul-result mul-result-2 mul-result-3 mul-result-4 returns)

@@ -6,16 +6,10 @@ use Rattle.times.specs.Comparison.{ratioWithin}
 use Rattle.times.proofs.ratio_within.Statement.{statement}
 use Rattle.times.proofs.ratio_within.Tie as tie
 
-enum-known-reach : tie.Need-enum-known-reach
-enum-known-reach c = search needs
-
 ratio-ratio-requires : tie.Need-ratio-ratio-requires
 ratio-ratio-requires c κs =
     let p = c .before .before .before .pre in
     (p .0, (subst Small (c .before .reach .given .1) (p .1 .0), p .1 .1))
-
-enum-known-reach-2 : tie.Need-enum-known-reach-2
-enum-known-reach-2 c = search needs
 
 ratio-root-requires : tie.Need-ratio-root-requires
 ratio-root-requires c κs =
@@ -33,10 +27,4 @@ returns-2 c = simp (c .before .before .reach2 .given .1, c .ratio-root .ensures)
 pub ratio-within-spec : {M : Type 1} → statement M
 ratio-within-spec =
     tie.close
-    (tie.spec
-    enum-known-reach
-    ratio-ratio-requires
-    enum-known-reach-2
-    ratio-root-requires
-    returns
-    returns-2)
+    (tie.spec (λ c. search needs) ratio-ratio-requires (λ c. search needs) ratio-root-requires returns returns-2)

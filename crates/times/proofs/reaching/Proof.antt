@@ -4,30 +4,6 @@ use Rattle.times.specs.Times.{reaching}
 use Rattle.times.proofs.reaching.Statement.{statement}
 use Rattle.times.proofs.reaching.Tie as tie
 
-enum-known-kind : tie.Need-enum-known-kind
-enum-known-kind c = search needs
-
-car-reaching-requires : tie.Need-car-reaching-requires
-car-reaching-requires c κs = search needs
-
-enum-known-kind-2 : tie.Need-enum-known-kind-2
-enum-known-kind-2 c = search needs
-
-tram-reaching-requires : tie.Need-tram-reaching-requires
-tram-reaching-requires c κs = search needs
-
-enum-known-kind-3 : tie.Need-enum-known-kind-3
-enum-known-kind-3 c = search needs
-
-counted-reaching-requires : tie.Need-counted-reaching-requires
-counted-reaching-requires c κs = search needs
-
-enum-known-kind-4 : tie.Need-enum-known-kind-4
-enum-known-kind-4 c = search needs
-
-counted-reaching-requires-2 : tie.Need-counted-reaching-requires-2
-counted-reaching-requires-2 c κs = search needs
-
 returns : tie.Need-returns
 unfolding reaching
 returns c = record { same = simp (c .before .before .kind .given .1, c .car-reaching .ensures .same); small = c .car-reaching .ensures .small }
@@ -47,16 +23,5 @@ returns-4 c = record { same = simp (c .before .before .kind4 .given .1, c .count
 pub reaching-spec : {M : Type 1} → statement M
 reaching-spec =
     tie.close
-    (tie.spec
-    enum-known-kind
-    car-reaching-requires
-    enum-known-kind-2
-    tram-reaching-requires
-    enum-known-kind-3
-    counted-reaching-requires
-    enum-known-kind-4
-    counted-reaching-requires-2
-    returns
-    returns-2
-    returns-3
-    returns-4)
+    (tie.spec (λ c. search needs) (λ c κs. search needs) (λ c. search needs) (λ c κs. search needs) (λ c. search needs)
+    (λ c κs. search needs) (λ c. search needs) (λ c κs. search needs) returns returns-2 returns-3 returns-4)

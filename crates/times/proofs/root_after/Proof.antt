@@ -29,9 +29,6 @@ mul-above c = omega (arith, mul-le-mul (square-small c) (c .pre .0 .scale))
 add-above : tie.Need-add-above
 add-above c = omega (arith, mul-le-mul (square-small c) (c .pre .0 .scale))
 
-above-requires : tie.Need-above-requires
-above-requires c κs = search needs
-
 mul-result : tie.Need-mul-result
 mul-result c = omega (arith, mul-le-mul (side-small c) (side-small c))
 
@@ -51,13 +48,4 @@ returns c = simp (c .above .ensures)
 pub root-after-spec : {M : Type 1} → statement M
 root-after-spec =
     tie.close
-    (tie.spec
-    mul-square
-    mul-above
-    add-above
-    above-requires
-    mul-result
-    mul-result-2
-    mul-result-3
-    mul-result-4
-    returns)
+    (tie.spec mul-square mul-above add-above (λ c κs. search needs) mul-result mul-result-2 mul-result-3 mul-result-4 returns)

@@ -29,9 +29,6 @@ mul-low c = omega (arith, mul-le-mul (square-small c) (c .pre .0 .scale))
 add-low : tie.Need-add-low
 add-low c = omega (arith, mul-le-mul (square-small c) (c .pre .0 .scale))
 
-above-requires : tie.Need-above-requires
-above-requires c κs = search needs
-
 mul-result : tie.Need-mul-result
 mul-result c = omega (arith, fourfold (c .before))
 
@@ -51,13 +48,4 @@ returns c = simp (c .above .ensures)
 pub root-before-spec : {M : Type 1} → statement M
 root-before-spec =
     tie.close
-    (tie.spec
-    mul-square
-    mul-low
-    add-low
-    above-requires
-    mul-result
-    mul-result-2
-    mul-result-3
-    mul-result-4
-    returns)
+    (tie.spec mul-square mul-low add-low (λ c κs. search needs) mul-result mul-result-2 mul-result-3 mul-result-4 returns)

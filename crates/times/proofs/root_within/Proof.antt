@@ -9,16 +9,10 @@ use Rattle.times.specs.Comparison.{rootWithin}
 use Rattle.times.proofs.root_within.Statement.{statement}
 use Rattle.times.proofs.root_within.Tie as tie
 
-enum-known-reach : tie.Need-enum-known-reach
-enum-known-reach c = search needs
-
 root-ratio-requires : tie.Need-root-ratio-requires
 root-ratio-requires c κs =
     let p = c .before .before .before .pre in
     (p .0, (subst Small (c .before .reach .given .1) (p .1 .0), p .1 .1))
-
-enum-known-reach-2 : tie.Need-enum-known-reach-2
-enum-known-reach-2 c = search needs
 
 -- the reaching root is small
 reaches : (c : tie.After-known-told2) → Small (Root (c .before .reach2 .given .0 .0) (c .before .reach2 .given .0 .1 .0) (c .before .reach2 .given .0 .1 .1 .0))
@@ -55,13 +49,5 @@ returns-2 c = simp (c .before .before .reach2 .given .1, c .root-root .ensures)
 pub root-within-spec : {M : Type 1} → statement M
 root-within-spec =
     tie.close
-    (tie.spec
-    enum-known-reach
-    root-ratio-requires
-    enum-known-reach-2
-    mul-root-root
-    mul-root-root-2
-    mul-root-root-3
-    root-root-requires
-    returns
-    returns-2)
+    (tie.spec (λ c. search needs) root-ratio-requires (λ c. search needs) mul-root-root mul-root-root-2 mul-root-root-3
+    root-root-requires returns returns-2)

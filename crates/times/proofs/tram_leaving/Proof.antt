@@ -5,24 +5,9 @@ use Rattle.times.specs.Times.{tramLeaving}
 use Rattle.times.proofs.tram_leaving.Statement.{statement}
 use Rattle.times.proofs.tram_leaving.Tie as tie
 
-stop-leaving-requires : tie.Need-stop-leaving-requires
-stop-leaving-requires c κs = search needs
-
 returns : tie.Need-returns
 unfolding tramLeaving
 returns c = record { same = simp (c .before .if1 .taken, c .stop-leaving .ensures .same); small = c .stop-leaving .ensures .small }
-
-cast-thousandths : tie.Need-cast-thousandths
-cast-thousandths c = search needs
-
-add-thousandths : tie.Need-add-thousandths
-add-thousandths c = search needs
-
-mul-thousandths : tie.Need-mul-thousandths
-mul-thousandths c = search needs
-
-add-thousandths-2 : tie.Need-add-thousandths-2
-add-thousandths-2 c = search needs
 
 returns-2 : tie.Need-returns-2
 unfolding tramLeaving
@@ -31,11 +16,5 @@ returns-2 c = record { same = simp (c .before .if1 .left); small = record { abov
 pub tram-leaving-spec : {M : Type 1} → statement M
 tram-leaving-spec =
     tie.close
-    (tie.spec
-    stop-leaving-requires
-    returns
-    cast-thousandths
-    add-thousandths
-    mul-thousandths
-    add-thousandths-2
+    (tie.spec (λ c κs. search needs) returns (λ c. search needs) (λ c. search needs) (λ c. search needs) (λ c. search needs)
     returns-2)

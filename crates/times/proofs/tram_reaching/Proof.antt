@@ -5,19 +5,14 @@ use Rattle.times.specs.Times.{tramReaching}
 use Rattle.times.proofs.tram_reaching.Statement.{statement}
 use Rattle.times.proofs.tram_reaching.Tie as tie
 
-add-t5 : tie.Need-add-t5
-add-t5 c = search needs
-
 returns : tie.Need-returns
 unfolding tramReaching
 returns c = record { same = simp (c .if1 .taken); small = record { above = omega arith; below = omega arith; off = omega arith } }
-
-passing-requires : tie.Need-passing-requires
-passing-requires c κs = search needs
 
 returns-2 : tie.Need-returns-2
 unfolding tramReaching
 returns-2 c = record { same = simp (c .before .if1 .left, c .passing .ensures .same); small = c .passing .ensures .small }
 
 pub tram-reaching-spec : {M : Type 1} → statement M
-tram-reaching-spec = tie.close (tie.spec add-t5 returns passing-requires returns-2)
+tram-reaching-spec = tie.close
+    (tie.spec (λ c. search needs) returns (λ c κs. search needs) returns-2)

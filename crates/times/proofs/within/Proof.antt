@@ -8,16 +8,10 @@ use Rattle.times.specs.declared.Time.the-variants.{Root}
 use Rattle.times.proofs.within.Statement.{statement}
 use Rattle.times.proofs.within.Tie as tie
 
-enum-known-leave : tie.Need-enum-known-leave
-enum-known-leave c = search needs
-
 ratio-within-requires : tie.Need-ratio-within-requires
 ratio-within-requires c κs =
     let p = c .before .before .before .pre in
     (subst Small (c .before .leave .given .1) (p .0), (p .1 .0, omega arith))
-
-enum-known-leave-2 : tie.Need-enum-known-leave-2
-enum-known-leave-2 c = search needs
 
 -- the leaving root is small
 leaves : (c : tie.After-known-told2) → Small (Root (c .before .leave2 .given .0 .0) (c .before .leave2 .given .0 .1 .0) (c .before .leave2 .given .0 .1 .1 .0))
@@ -43,11 +37,5 @@ returns-2 c = simp (c .before .before .leave2 .given .1, c .root-within .ensures
 pub within-spec : {M : Type 1} → statement M
 within-spec =
     tie.close
-    (tie.spec
-    enum-known-leave
-    ratio-within-requires
-    enum-known-leave-2
-    add-root-within
-    root-within-requires
-    returns
+    (tie.spec (λ c. search needs) ratio-within-requires (λ c. search needs) add-root-within root-within-requires returns
     returns-2)

@@ -7,12 +7,6 @@ use Rattle.working_out.specs.Cases.{file-refused, file-taken, lent-refus
 use Rattle.working_out.proofs.work_out.Statement.{statement}
 use Rattle.working_out.proofs.work_out.Tie as tie
 
-read-requires : tie.Need-read-requires
-read-requires c κs = search needs
-
-refused-requires : tie.Need-refused-requires
-refused-requires c κs = search needs
-
 returns : tie.Need-returns
 returns c =
     let a = c .before .before .before .before .before .args in
@@ -27,9 +21,6 @@ work-out-junction-requires c κs =
     let t = ap (λ r. isRefused (r .verdict)) (sym e) ∙ sym (c .before .before .refused .ensures) ∙ c .before .if1 .left in
     rw e (taken (a .junction .now) (not-refused _ t))
 
-same-length : tie.Need-same-length
-same-length c = search needs
-
 returns-2 : tie.Need-returns-2
 returns-2 c =
     let a = c .before .before .before .before .before .before .before .before .before .args in
@@ -40,10 +31,4 @@ returns-2 c =
 pub work-out-spec : {M : Type 1} → statement M
 work-out-spec =
     tie.close
-    (tie.spec
-    read-requires
-    refused-requires
-    returns
-    work-out-junction-requires
-    same-length
-    returns-2)
+    (tie.spec (λ c κs. search needs) (λ c κs. search needs) returns work-out-junction-requires (λ c. search needs) returns-2)

@@ -10,30 +10,6 @@ use Rattle.working_out.specs.WorkingOut.{junctionVerdict}
 use Rattle.working_out.proofs.work_out_junction.Statement.{statement}
 use Rattle.working_out.proofs.work_out_junction.Tie as tie
 
-loads-of-requires : tie.Need-loads-of-requires
-loads-of-requires c κs = search needs
-
-conflicts-of-requires : tie.Need-conflicts-of-requires
-conflicts-of-requires c κs = search needs
-
-phases-at-requires : tie.Need-phases-at-requires
-phases-at-requires c κs = search needs
-
-find-cycle-requires : tie.Need-find-cycle-requires
-find-cycle-requires c κs = search needs
-
-has-room-requires : tie.Need-has-room-requires
-has-room-requires c κs = search needs
-
-ratio-sum-requires : tie.Need-ratio-sum-requires
-ratio-sum-requires c κs = search needs
-
-calculated-requires : tie.Need-calculated-requires
-calculated-requires c κs = search needs
-
-refused-requires : tie.Need-refused-requires
-refused-requires c κs = search needs
-
 returns : tie.Need-returns
 unfolding junctionVerdict ratios
 returns c =
@@ -54,9 +30,6 @@ write-plan-requires c κs =
     let low = cycle-found (a .j) _ (not-refused _ (ap isRefused (sym e) ∙ sym (c .before .before .refused .ensures) ∙ c .before .if1 .left)) in
     (c .before .before .before .before .before .before .before .before .before .before .before .pre, (c .before .before .before .before .before .before .before .phases-at .ensures, (rw (f, found-cycle) (cycle-works (a .j) low .1), rw (f, found-cycle) (omega (arith, low)))))
 
-same-length : tie.Need-same-length
-same-length c = search needs
-
 returns-2 : tie.Need-returns-2
 unfolding junctionVerdict ratios
 returns-2 c =
@@ -70,16 +43,6 @@ returns-2 c =
 pub work-out-junction-spec : {M : Type 1} → statement M
 work-out-junction-spec =
     tie.close
-    (tie.spec
-    loads-of-requires
-    conflicts-of-requires
-    phases-at-requires
-    find-cycle-requires
-    has-room-requires
-    ratio-sum-requires
-    calculated-requires
-    refused-requires
-    returns
-    write-plan-requires
-    same-length
+    (tie.spec (λ c κs. search needs) (λ c κs. search needs) (λ c κs. search needs) (λ c κs. search needs) (λ c κs. search needs)
+    (λ c κs. search needs) (λ c κs. search needs) (λ c κs. search needs) returns write-plan-requires (λ c. search needs)
     returns-2)

@@ -1,19 +1,10 @@
 -- `working_out::write_plan` meets its contract: a length that works is possible.
 use borrow.Author.Needs.{needs}
 use mathlib.Core.Path.{_∙_, ap}
-use Rattle.phases.specs.Slots.{slotsOf}
+use Rattle.phase_greens.specs.Slots.{slotsOf}
 use Rattle.planning.specs.Lengths.{works-only}
 use Rattle.working_out.proofs.write_plan.Statement.{statement}
 use Rattle.working_out.proofs.write_plan.Tie as tie
-
-at-cycle-requires : tie.Need-at-cycle-requires
-at-cycle-requires c κs = search needs
-
-shared-out-requires : tie.Need-shared-out-requires
-shared-out-requires c κs = search needs
-
-slots-of-requires : tie.Need-slots-of-requires
-slots-of-requires c κs = search needs
 
 plan-at-requires : tie.Need-plan-at-requires
 plan-at-requires c κs =
@@ -21,15 +12,11 @@ plan-at-requires c κs =
     let e = c .before .before .at-cycle .ensures in
     (pre .0, (e, (c .slots-of .ensures ∙ ap (slotsOf _) (c .before .shared-out .ensures), (rw e (works-only _ _ (pre .1 .1 .0) .0), pre .1 .1 .1))))
 
-write-requires : tie.Need-write-requires
-write-requires c κs = search needs
-
-same-length : tie.Need-same-length
-same-length c = search needs
-
 returns : tie.Need-returns
 returns c = simp (c .before .before .write .ensures, c .before .before .before .before .plan-at .ensures)
 
 pub write-plan-spec : {M : Type 1} → statement M
 write-plan-spec =
-    tie.close (tie.spec at-cycle-requires shared-out-requires slots-of-requires plan-at-requires write-requires same-length returns)
+    tie.close
+    (tie.spec (λ c κs. search needs) (λ c κs. search needs) (λ c κs. search needs) plan-at-requires (λ c κs. search needs)
+    (λ c. search needs) returns)

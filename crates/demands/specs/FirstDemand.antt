@@ -1,0 +1,88 @@
+-- The customer's first demand, whole: the answer to every junction file, every plan file and every lent buffer, however malformed or short, is
+-- a result or one numbered refusal with its place, and a refusal alters no lent byte.
+--
+-- `reading`, `judgement`, `worked` and `buffer` are what `reading::read`, `judging::judge` and `working_out::work_out` are proved to answer and
+-- to leave, with no `requires`, and to end; `judgeAnswer`, `planAnswer` and the like what the C library's functions are. Questions.antt has the
+-- questions in document 01's order, Asked.antt what it is that a verdict `Answers` them, Places.antt the numbers that the paper lists for each
+-- entry, with their places.
+use Prim.Native.Nat.{ℕ, _≤_}
+use mathlib.Core.List.{List}
+use mathlib.Core.Logic.{_↔_, _⊎_}
+use mathlib.Core.Path.{_≡_, ap}
+use lib.ListN.{length}
+use Rattle.fields.specs.Verdict.{isRefused}
+use Rattle.fields.specs.declared.Verdict.the-variants.{Refused}
+use Rattle.reading.specs.Reading.{reading}
+use Rattle.plans.specs.Plans.{planOf}
+use Rattle.rules.specs.Rules.{needMet, capacityMet, zoneMet}
+use Rattle.judging.specs.Judgement.{judgement}
+use Rattle.working_out.specs.WorkingOut.{worked, buffer}
+use Rattle.givendra.specs.Answers.{judgeAnswer, planAnswer, junctionAnswer, intergreenAnswer, needAnswer, saturationAnswer, ratioAnswer}
+use Rattle.givendra.specs.LentList.{newestAnswer}
+use Rattle.givendra.specs.declared.CountRecord.{CountRecord}
+use Rattle.demands.specs.Asked.{Answers, AnswersBy}
+use Rattle.demands.specs.Places.{JunctionPlace, JudgePlace, WorkPlace, FigurePlace, ListPlace}
+use Rattle.demands.specs.Questions.{junctionAsked, judgeAsked, workAsked, intergreenAsked, needAsked, carAsked, listAsked, Formed, Every, FirstOf}
+use Rattle.demands.specs.lemmas.Answered.{read-answer, judge-answer, work-answer}
+use Rattle.demands.specs.lemmas.Entries.{answers, kept, c-read-holds, c-judge-holds, c-plan-holds, c-kept, intergreen-holds, need-holds, saturation-holds, ratio-holds, newest-holds}
+use Rattle.demands.specs.lemmas.Rules.{need-refused, capacity-refused, zone-refused}
+use Rattle.demands.specs.lemmas.Told.{junction-told, judge-told, work-told}
+
+pub record FirstDemand : Type 0 where
+  pub read : (junction : List ℕ) → Answers (reading junction .verdict) (junctionAsked junction) (JunctionPlace (length junction) (reading junction .junction .held .streams))
+  pub judged : (junction plan : List ℕ) → Answers (judgement junction plan) (judgeAsked junction plan) (JudgePlace junction plan)
+  pub planned : (junction lent : List ℕ) → Answers (worked junction (length lent) .verdict) (workAsked junction (length lent)) (WorkPlace junction)
+  -- 15, 16 and 17 in full: both files pass their questions, every earlier rule is met by every stream, the stream or zone of that place breaks
+  -- its rule, and every lower one meets it
+  pub refused-15 : (junction plan : List ℕ) (n : ℕ) → (judgement junction plan ≡ Refused 15 n)
+      ↔ (Formed junction plan × FirstOf (needMet (reading junction .junction) (planOf plan)) (reading junction .junction .held .streams) n)
+  pub refused-16 : (junction plan : List ℕ) (n : ℕ) → (judgement junction plan ≡ Refused 16 n)
+      ↔ (Formed junction plan × Every (needMet (reading junction .junction) (planOf plan)) (reading junction .junction .held .streams)
+      × FirstOf (capacityMet (reading junction .junction) (planOf plan)) (reading junction .junction .held .streams) n)
+  pub refused-17 : (junction plan : List ℕ) (zone : ℕ) → (judgement junction plan ≡ Refused 17 zone)
+      ↔ (Formed junction plan × Every (needMet (reading junction .junction) (planOf plan)) (reading junction .junction .held .streams)
+      × Every (capacityMet (reading junction .junction) (planOf plan)) (reading junction .junction .held .streams)
+      × FirstOf (zoneMet (reading junction .junction) (planOf plan)) (reading junction .junction .held .zones) zone)
+  -- a refusal alters no lent byte
+  pub unaltered : (junction lent : List ℕ) (number place : ℕ) → worked junction (length lent) .verdict ≡ Refused number place → buffer junction lent ≡ lent
+  -- the same of the C library's answers: junction files, judging, working out into a lent buffer
+  pub c-read : (junction : List ℕ)
+      → AnswersBy (junctionAnswer junction .refusal) (junctionAnswer junction .place) (junctionAsked junction) (JunctionPlace (length junction) (reading junction .junction .held .streams))
+  pub c-judged : (junction plan : List ℕ)
+      → AnswersBy (judgeAnswer junction plan .refusal) (judgeAnswer junction plan .place) (judgeAsked junction plan) (JudgePlace junction plan)
+  pub c-planned : (junction lent : List ℕ)
+      → AnswersBy (planAnswer junction (length lent) .refusal) (planAnswer junction (length lent) .place) (workAsked junction (length lent)) (WorkPlace junction)
+  pub c-unaltered : (junction lent : List ℕ) → 1 ≤ planAnswer junction (length lent) .refusal → buffer junction lent ≡ lent
+  -- of a figure: 7 at a stream's number that is asked for, 13 at 0 for a need's cycle
+  pub intergreen : (junction : List ℕ) (from to : ℕ)
+      → AnswersBy (intergreenAnswer junction from to .refusal) (intergreenAnswer junction from to .place) (intergreenAsked junction from to) (FigurePlace junction (λ p. (p ≡ from) ⊎ (p ≡ to)) ⊥)
+  pub need : (junction : List ℕ) (n cycle : ℕ)
+      → AnswersBy (needAnswer junction n cycle .refusal) (needAnswer junction n cycle .place) (needAsked junction n cycle) (FigurePlace junction (λ p. p ≡ n) (Unit {0}))
+  pub saturation : (junction : List ℕ) (n : ℕ)
+      → AnswersBy (saturationAnswer junction n .refusal) (saturationAnswer junction n .place) (carAsked junction n) (FigurePlace junction (λ p. p ≡ n) ⊥)
+  pub ratio : (junction : List ℕ) (n : ℕ)
+      → AnswersBy (ratioAnswer junction n .refusal) (ratioAnswer junction n .place) (carAsked junction n) (FigurePlace junction (λ p. p ≡ n) ⊥)
+  -- of a lent list: 9 at the stream asked for
+  pub newest : (list : List CountRecord) (asked design : ℕ)
+      → AnswersBy (newestAnswer list asked design .refusal) (newestAnswer list asked design .place) (listAsked list asked design) (ListPlace asked)
+
+pub first-demand : FirstDemand
+first-demand =
+    record {
+      read = λ junction. answers _ _ _ (read-answer junction) (junction-told junction);
+      judged = λ junction plan. answers _ _ _ (judge-answer junction plan) (judge-told junction plan);
+      planned = λ junction lent. answers _ _ _ (work-answer junction (length lent)) (work-told junction (length lent));
+      refused-15 = need-refused;
+      refused-16 = capacity-refused;
+      refused-17 = zone-refused;
+      unaltered = λ junction lent number place e. kept junction lent (ap isRefused e);
+      c-read = c-read-holds;
+      c-judged = c-judge-holds;
+      c-planned = λ junction lent. c-plan-holds junction (length lent);
+      c-unaltered = c-kept;
+      intergreen = intergreen-holds;
+      need = need-holds;
+      saturation = saturation-holds;
+      ratio = ratio-holds;
+      newest = newest-holds;
+    }

@@ -1,0 +1,9 @@
+pub mod Asked
+pub mod Figures
+pub mod Files
+pub mod FirstDemand
+pub mod Places
+pub mod Questions
+pub mod SecondDemand
+pub mod ThirdDemand
+pub mod lemmas

@@ -1,0 +1,50 @@
+-- The numbers that document 01 lists for each entry over files, each with the places that it can have; and those of the C library's figures.
+use Prim.Native.Nat.{ℕ, _≤_, _<_}
+use mathlib.Core.List.{List}
+use lib.ListN.{length}
+use Rattle.laws.specs.Ranges.{Between}
+use Rattle.reading.specs.Reading.{reading}
+
+-- a junction file of so many bytes, with so many streams: 1 at 0, 2 to 7 at a byte of the file, 8 at its length, 9 at a stream
+pub data JunctionPlace (size streams : ℕ) : ℕ → ℕ → Type 0 where
+  long : JunctionPlace size streams 1 0
+  field : {n p : ℕ} → Between 2 7 n → p < size → JunctionPlace size streams n p
+  file : JunctionPlace size streams 8 size
+  count : {p : ℕ} → Between 1 streams p → JunctionPlace size streams 9 p
+
+-- a plan file of so many bytes, for so many streams and zones: 11 and 13 at a byte of the file, 12 there or at its length, 15 and 16 at
+-- a stream, 17 at a zone
+pub data PlanPlace (size streams zones : ℕ) : ℕ → ℕ → Type 0 where
+  fit : {p : ℕ} → p < size → PlanPlace size streams zones 11 p
+  expected : {p : ℕ} → p ≤ size → PlanPlace size streams zones 12 p
+  range : {p : ℕ} → p < size → PlanPlace size streams zones 13 p
+  need : {p : ℕ} → Between 1 streams p → PlanPlace size streams zones 15 p
+  capacity : {p : ℕ} → Between 1 streams p → PlanPlace size streams zones 16 p
+  zone : {p : ℕ} → Between 1 zones p → PlanPlace size streams zones 17 p
+
+-- the calculation: 21 to 23 at 0
+pub data CalculationPlace : ℕ → ℕ → Type 0 where
+  ratios-sum : CalculationPlace 21 0
+  no-cycle : CalculationPlace 22 0
+  no-room : CalculationPlace 23 0
+
+-- the judge's answer: a junction's, or a plan's
+pub data JudgePlace (junction plan : List ℕ) : ℕ → ℕ → Type 0 where
+  of-junction : {n p : ℕ} → JunctionPlace (length junction) (reading junction .junction .held .streams) n p → JudgePlace junction plan n p
+  of-plan : {n p : ℕ} → PlanPlace (length plan) (reading junction .junction .held .streams) (reading junction .junction .held .zones) n p
+      → JudgePlace junction plan n p
+
+-- the planner's: a junction's, or the calculation's
+pub data WorkPlace (junction : List ℕ) : ℕ → ℕ → Type 0 where
+  of-junction : {n p : ℕ} → JunctionPlace (length junction) (reading junction .junction .held .streams) n p → WorkPlace junction n p
+  of-calculation : {n p : ℕ} → CalculationPlace n p → WorkPlace junction n p
+
+-- a figure's: a junction's, 7 at a number asked for, or 13 at 0 for the cycle asked for
+pub data FigurePlace (junction : List ℕ) (Asked : ℕ → Type 0) (Cycle : Type 0) : ℕ → ℕ → Type 0 where
+  of-junction : {n p : ℕ} → JunctionPlace (length junction) (reading junction .junction .held .streams) n p → FigurePlace junction Asked Cycle n p
+  of-stream : {p : ℕ} → Asked p → FigurePlace junction Asked Cycle 7 p
+  of-cycle : Cycle → FigurePlace junction Asked Cycle 13 0
+
+-- the lent list's: 9 at the stream asked for
+pub data ListPlace (asked : ℕ) : ℕ → ℕ → Type 0 where
+  none-usable : ListPlace asked 9 asked

@@ -1,0 +1,120 @@
+-- Document 01, "Questions in order", as lists: the questions of a junction file, of a plan file with its rules, and of the calculation; and
+-- those of the C library's figures.
+use Prim.Native.Nat.{ℕ, zero, suc, _+_, _-_, _≤_, _<_}
+use mathlib.Core.Bool.{Bool, true, false, not, cond}
+use mathlib.Core.List.{List, [], _∷_, _++_}
+use mathlib.Core.Path.{_≡_}
+use lib.Dec.{leb, ltb}
+use lib.ListN.{length}
+use Rattle.laws.specs.Ranges.{Between}
+use Rattle.fields.specs.Bytes.{byteAt, numberAt, fieldEnd, fits, bodyOf}
+use Rattle.fields.specs.declared.Verdict.the-variants.{Passed}
+use Rattle.junction.specs.declared.Junction.{Junction}
+use Rattle.questions.specs.Blank.{blank}
+use Rattle.questions.specs.Questions.{inOrder, lengthRight, inRange, withinLimit, refers, exists, countRefers, lacksCount, whole}
+use Rattle.reading.specs.Reading.{withField, reading}
+use Rattle.plans.specs.Plans.{cycleExpected, cycleInRange, greenExpected, greenInRange, planVerdict, planOf}
+use Rattle.plans.specs.Writing.{hasRoom}
+use Rattle.rules.specs.Rules.{needMet, capacityMet, zoneMet}
+use Rattle.planning.specs.Planning.{ratios, cycle}
+use Rattle.givendra.specs.LentList.{listRank}
+use Rattle.givendra.specs.declared.CountRecord.{CountRecord}
+use Rattle.demands.specs.Asked.{Question, question, each}
+
+-- a field of a junction file at a place, where the fields before it say j: 2 do three bytes and the body fit? 3 is the tag known and in its
+-- order? 4 is the length right? 5 is each number in range? 6 is the count of its sort within limit? 7 do the streams that it names exist?
+unfoldable pub fieldAsked : List ℕ → ℕ → Junction → List Question
+fieldAsked s at j =
+    question 2 at (fits s at)
+    ∷ question 3 at (inOrder (j .held .last) (byteAt s at))
+    ∷ question 4 at (lengthRight (byteAt s at) (bodyOf s at))
+    ∷ question 5 at (inRange (byteAt s at) (bodyOf s at))
+    ∷ question 6 at (withinLimit (byteAt s at) (j .held))
+    ∷ question 7 at (refers (byteAt s at) j (bodyOf s at)) ∷ []
+
+-- stream n is no car or has a usable count
+unfoldable pub counted : Junction → ℕ → Bool
+counted j n = not (lacksCount j (n - 1))
+
+-- then 8 (file length): heading, phases and a car there? 9 (stream, lowest first): has each car a usable count?
+unfoldable pub wholeAsked : ℕ → Junction → List Question
+wholeAsked size j = question 8 size (whole j) ∷ each (counted j) 9 (j .held .streams)
+
+unfoldable pub fieldsAsked : ℕ → List ℕ → ℕ → Junction → List Question
+fieldsAsked zero s at j = wholeAsked (length s) j
+fieldsAsked (suc fuel) s at j =
+    cond (ltb at (length s))
+    (fieldAsked s at j ++ fieldsAsked fuel s (fieldEnd s at) (withField (byteAt s at) (bodyOf s at) j))
+    (wholeAsked (length s) j)
+
+-- the junction's questions: 1 (place 0) is it within 16,384 bytes? Then field by field
+unfoldable pub junctionAsked : List ℕ → List Question
+junctionAsked s = question 1 0 (leb (length s) 16384) ∷ fieldsAsked (length s) s 0 blank
+
+-- a field of a plan file that is due at a place: 12 (file length) has the file not ended? 11 does it fit? 12 is it the expected one?
+-- 13 are its numbers in range?
+unfoldable pub dueAsked : List ℕ → ℕ → Bool → Bool → List Question
+dueAsked s at expected inRange =
+    question 12 (length s) (ltb at (length s)) ∷ question 11 at (fits s at) ∷ question 12 at expected ∷ question 13 at inRange ∷ []
+
+unfoldable pub greensAsked : ℕ → List ℕ → ℕ → ℕ → List Question
+greensAsked zero s at n = question 12 at (leb (length s) at) ∷ []
+greensAsked (suc streams) s at n =
+    dueAsked s at (greenExpected s at n) (greenInRange s at) ++ greensAsked streams s (fieldEnd s at) (n + 1)
+
+unfoldable pub planAsked : List ℕ → ℕ → List Question
+planAsked s streams = dueAsked s 0 (cycleExpected s) (cycleInRange (numberAt s 3)) ++ greensAsked streams s (fieldEnd s 0) 1
+
+-- 15 need (stream), 16 capacity (stream), 17 zone (its number), lowest first
+unfoldable pub rulesAsked : Junction → List ℕ → List Question
+rulesAsked j plan =
+    each (needMet j (planOf plan)) 15 (j .held .streams)
+    ++ (each (capacityMet j (planOf plan)) 16 (j .held .streams)
+    ++ each (zoneMet j (planOf plan)) 17 (j .held .zones))
+
+-- the junction file is taken, and the plan file well-formed for it
+abbrev pub Formed : List ℕ → List ℕ → Type 0
+Formed junction plan = (reading junction .verdict ≡ Passed) × (planVerdict plan (reading junction .junction .held .streams) ≡ Passed)
+
+-- each of the numbers 1 to n meets a rule
+abbrev pub Every : (ℕ → Bool) → ℕ → Type 0
+Every holds n = (k : ℕ) → Between 1 n k → holds k ≡ true
+
+-- of the numbers 1 to n, k breaks a rule, and every lower one meets it
+pub record FirstOf (holds : ℕ → Bool) (n k : ℕ) : Type 0 where
+  pub range : Between 1 n k
+  pub fails : holds k ≡ false
+  pub lower : (i : ℕ) → 1 ≤ i → i < k → holds i ≡ true
+
+-- 21 is Y below 10,000? 22 is there a cycle? 23 does the lent buffer hold the plan file?
+unfoldable pub calculationAsked : Junction → ℕ → List Question
+calculationAsked j size =
+    question 21 0 (ltb (ratios j) 10000) ∷ question 22 0 (ltb (cycle j) 181) ∷ question 23 0 (hasRoom (j .held .streams) size) ∷ []
+
+-- where a plan or calculation needs a junction, the junction's questions come first
+abbrev pub judgeAsked : List ℕ → List ℕ → List Question
+judgeAsked junction plan =
+    let j = reading junction .junction in
+    junctionAsked junction ++ (planAsked plan (j .held .streams) ++ rulesAsked j plan)
+
+abbrev pub workAsked : List ℕ → ℕ → List Question
+workAsked junction size = junctionAsked junction ++ calculationAsked (reading junction .junction) size
+
+-- the C library's figures: after the junction's questions, 7 with the number asked for, does the stream exist? For a car's figures: is it an
+-- existing car? For a need, then 13 at 0: is the cycle from 1 to 180?
+abbrev pub intergreenAsked : List ℕ → ℕ → ℕ → List Question
+intergreenAsked junction from to =
+    let j = reading junction .junction in
+    junctionAsked junction ++ (question 7 from (exists j from) ∷ question 7 to (exists j to) ∷ [])
+
+abbrev pub needAsked : List ℕ → ℕ → ℕ → List Question
+needAsked junction n cycle =
+    let j = reading junction .junction in
+    junctionAsked junction ++ (question 7 n (exists j n) ∷ question 13 0 (cycleInRange cycle) ∷ [])
+
+abbrev pub carAsked : List ℕ → ℕ → List Question
+carAsked junction n = junctionAsked junction ++ (question 7 n (countRefers (reading junction .junction) n) ∷ [])
+
+-- the lent list: 9, place the stream asked for, is a record usable?
+abbrev pub listAsked : List CountRecord → ℕ → ℕ → List Question
+listAsked list asked design = question 9 asked (leb 1 (listRank asked design list)) ∷ []

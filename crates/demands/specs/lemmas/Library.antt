@@ -1,0 +1,117 @@
+-- The C library's answers are the answers to their questions too, and a refusal's number is never 0.
+use Prim.Native.Nat.{ℕ, zero, suc, _≤_}
+use native.Mathlib.Omega.{arith}
+use mathlib.Core.List.{List, _++_}
+use mathlib.Core.Logic.{_⊎_, inl, inr}
+use mathlib.Core.Path.{_≡_, refl, sym, _∙_}
+use lib.Dec.{leb}
+use Rattle.fields.specs.Verdict.{numberOf, placeOf, ask, firstRefusal}
+use Rattle.fields.specs.declared.Verdict.{Verdict}
+use Rattle.fields.specs.declared.Verdict.the-variants.{Passed, Refused}
+use Rattle.questions.specs.Questions.{exists, countRefers}
+use Rattle.reading.specs.Reading.{reading}
+use Rattle.plans.specs.Plans.{cycleInRange}
+use Rattle.givendra.specs.Answers.{intergreenVerdict, needVerdict, carVerdict}
+use Rattle.givendra.specs.LentList.{listRank}
+use Rattle.givendra.specs.declared.CountRecord.{CountRecord}
+use Rattle.demands.specs.Asked.{Question, answer, answer-append, said}
+use Rattle.demands.specs.Places.{JunctionPlace, long, field, file, count, PlanPlace, fit, expected, range, need, capacity, zone}
+use Rattle.demands.specs.Places.{CalculationPlace, ratios-sum, no-cycle, no-room, JudgePlace, WorkPlace, FigurePlace, ListPlace, of-junction, of-plan, of-calculation, of-stream, of-cycle, none-usable}
+use Rattle.demands.specs.Questions.{junctionAsked, intergreenAsked, needAsked, carAsked, listAsked}
+use Rattle.demands.specs.lemmas.Answered.{read-answer}
+use Rattle.demands.specs.lemmas.Told.{Told, ask-told, first-told, told-more, junction-told}
+
+-- where a refusal's number is not 0, the number and the place of a verdict say the verdict
+pub said-is : (v : Verdict) → Told (λ number place. 1 ≤ number) v → said (numberOf v) (placeOf v) ≡ v
+said-is Passed t = refl
+said-is (Refused zero place) t = absurd (omega arith)
+said-is (Refused (suc number) place) t = refl
+
+-- no listed number is 0
+pub junction-some : {size streams : ℕ} (n p : ℕ) → JunctionPlace size streams n p → 1 ≤ n
+junction-some n p long = omega arith
+junction-some n p (field w low) = omega arith
+junction-some n p file = omega arith
+junction-some n p (count w) = omega arith
+
+plan-some : {size streams zones : ℕ} (n p : ℕ) → PlanPlace size streams zones n p → 1 ≤ n
+plan-some n p (fit l) = omega arith
+plan-some n p (expected l) = omega arith
+plan-some n p (range l) = omega arith
+plan-some n p (need w) = omega arith
+plan-some n p (capacity w) = omega arith
+plan-some n p (zone w) = omega arith
+
+calculation-some : (n p : ℕ) → CalculationPlace n p → 1 ≤ n
+calculation-some n p ratios-sum = omega arith
+calculation-some n p no-cycle = omega arith
+calculation-some n p no-room = omega arith
+
+pub judge-some : {junction plan : List ℕ} (n p : ℕ) → JudgePlace junction plan n p → 1 ≤ n
+judge-some n p (of-junction w) = junction-some n p w
+judge-some n p (of-plan w) = plan-some n p w
+
+pub work-some : {junction : List ℕ} (n p : ℕ) → WorkPlace junction n p → 1 ≤ n
+work-some n p (of-junction w) = junction-some n p w
+work-some n p (of-calculation w) = calculation-some n p w
+
+pub figure-some : {junction : List ℕ} {Asked : ℕ → Type 0} {Cycle : Type 0} (n p : ℕ) → FigurePlace junction Asked Cycle n p → 1 ≤ n
+figure-some n p (of-junction w) = junction-some n p w
+figure-some n p (of-stream w) = omega arith
+figure-some n p (of-cycle w) = omega arith
+
+pub list-some : {asked : ℕ} (n p : ℕ) → ListPlace asked n p → 1 ≤ n
+list-some n p none-usable = omega arith
+
+module _ (junction : List ℕ) where
+  -- a figure's own questions after the junction's
+  own-answer : (own : List Question) (v : Verdict) → answer own ≡ v → firstRefusal (reading junction .verdict) v ≡ answer (junctionAsked junction ++ own)
+  own-answer own v e = sym (answer-append (junctionAsked junction) own ∙ rw (← read-answer junction, e))
+
+  own-told : (Asked : ℕ → Type 0) (Cycle : Type 0) (v : Verdict) → Told (FigurePlace junction Asked Cycle) v
+      → Told (FigurePlace junction Asked Cycle) (firstRefusal (reading junction .verdict) v)
+  own-told Asked Cycle v t =
+      let R = FigurePlace junction Asked Cycle in
+      first-told R (reading junction .verdict) v (told-more _ R (λ n p. of-junction) (reading junction .verdict) (junction-told junction)) (λ e. t)
+
+  module _ (from to : ℕ) where
+    pub intergreen-answer : firstRefusal (reading junction .verdict) (intergreenVerdict (reading junction .junction) from to) ≡ answer (intergreenAsked junction from to)
+    intergreen-answer = own-answer _ _ (unfold answer intergreenVerdict in refl)
+
+    pub intergreen-told : Told (FigurePlace junction (λ p. (p ≡ from) ⊎ (p ≡ to)) ⊥) (firstRefusal (reading junction .verdict) (intergreenVerdict (reading junction .junction) from to))
+    unfolding intergreenVerdict
+    intergreen-told =
+        let j = reading junction .junction in
+        let R = FigurePlace junction (λ p. (p ≡ from) ⊎ (p ≡ to)) ⊥ in
+        own-told _ _ _ (ask-told R (exists j from) 7 from _ (λ e. of-stream (inl refl)) (λ e.
+        ask-told R (exists j to) 7 to Passed (λ e. of-stream (inr refl)) (λ e. tt)))
+
+  module _ (n cycle : ℕ) where
+    pub need-answer : firstRefusal (reading junction .verdict) (needVerdict (reading junction .junction) n cycle) ≡ answer (needAsked junction n cycle)
+    need-answer = own-answer _ _ (unfold answer needVerdict in refl)
+
+    pub need-told : Told (FigurePlace junction (λ p. p ≡ n) (Unit {0})) (firstRefusal (reading junction .verdict) (needVerdict (reading junction .junction) n cycle))
+    unfolding needVerdict
+    need-told =
+        let j = reading junction .junction in
+        let R = FigurePlace junction (λ p. p ≡ n) (Unit {0}) in
+        own-told _ _ _ (ask-told R (exists j n) 7 n _ (λ e. of-stream refl) (λ e.
+        ask-told R (cycleInRange cycle) 13 0 Passed (λ e. of-cycle tt) (λ e. tt)))
+
+  module _ (n : ℕ) where
+    pub car-answer : firstRefusal (reading junction .verdict) (carVerdict (reading junction .junction) n) ≡ answer (carAsked junction n)
+    car-answer = own-answer _ _ (unfold answer carVerdict in refl)
+
+    pub car-told : Told (FigurePlace junction (λ p. p ≡ n) ⊥) (firstRefusal (reading junction .verdict) (carVerdict (reading junction .junction) n))
+    unfolding carVerdict
+    car-told =
+        let R = FigurePlace junction (λ p. p ≡ n) ⊥ in
+        own-told _ _ _ (ask-told R (countRefers (reading junction .junction) n) 7 n Passed (λ e. of-stream refl) (λ e. tt))
+
+module _ (list : List CountRecord) (asked design : ℕ) where
+  pub list-answer : ask (leb 1 (listRank asked design list)) 9 asked Passed ≡ answer (listAsked list asked design)
+  unfolding answer
+  list-answer = refl
+
+  pub list-told : Told (ListPlace asked) (ask (leb 1 (listRank asked design list)) 9 asked Passed)
+  list-told = ask-told (ListPlace asked) (leb 1 (listRank asked design list)) 9 asked Passed (λ e. none-usable) (λ e. tt)

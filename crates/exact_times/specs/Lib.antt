@@ -1,0 +1,4 @@
+pub mod Numbers
+pub mod Roots
+pub mod Squares
+pub mod Streams

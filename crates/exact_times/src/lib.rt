@@ -1,0 +1,1 @@
+// What the comparison of two exact times means, roots included: definitions and theorems alone.

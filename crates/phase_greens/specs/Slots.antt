@@ -1,0 +1,38 @@
+-- Starts and greens of the six places, worked out once for a length: each place holds what the definitions say.
+use Prim.Native.Nat.{ℕ, _≤_, _<_}
+use native.Mathlib.Nat.{le-refl}
+use native.Mathlib.Omega.{arith}
+use mathlib.Core.Path.{_≡_}
+use lib.Dec.{ltb}
+use lib.ListN.{getD, replicate}
+use Rattle.laws.specs.Filled.{filled, filled-at}
+use Rattle.laws.specs.Search.{firstBelow, first-same}
+use Rattle.phase_greens.specs.Greens.{greenAt, startAt, firstShort}
+use Rattle.phase_lengths.specs.declared.Phases.{Phases}
+use Rattle.phase_greens.specs.declared.Sharing.{Sharing}
+use Rattle.phase_greens.specs.declared.Slot.{Slot}
+use Rattle.phase_greens.specs.declared.Slots.{Slots}
+
+-- what stands in a place before it is worked out
+abbrev pub noSlot : Slot
+noSlot = record { start = 0; green = 0 }
+
+-- start and green of a place
+abbrev pub slotAt : Phases → Sharing → ℕ → Slot
+slotAt q s i = record { start = startAt q s i; green = greenAt q s i }
+
+unfoldable pub slotsOf : Phases → Sharing → Slots
+slotsOf q s = record { of = filled (slotAt q s) (replicate 6 noSlot) 6 }
+
+pub slot-place : (q : Phases) (s : Sharing) (i : ℕ) → i < 6 → getD (slotsOf q s .of) i noSlot ≡ slotAt q s i
+unfolding slotsOf
+slot-place q s i h = filled-at (slotAt q s) (replicate 6 noSlot) 6 i noSlot h (le-refl 6)
+
+-- the first of the first n places whose green is below 1
+unfoldable pub firstShortIn : Slots → ℕ → ℕ
+firstShortIn slots n = firstBelow (λ i. ltb (getD (slots .of) i noSlot .green) 1) n 0
+
+-- by the table it is the same
+pub short-tabled : (q : Phases) (s : Sharing) → q .count ≤ 6 → firstShortIn (slotsOf q s) (q .count) ≡ firstShort q s
+unfolding firstShortIn firstShort
+short-tabled q s few = first-same _ _ (q .count) 0 (λ i low high. rw (slot-place q s i (omega arith)))

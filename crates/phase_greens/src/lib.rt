@@ -1,0 +1,158 @@
+// What a length of the cycle gives each phase: effective green, green and start (document 01, "Working out a plan").
+ghost use mathlib.Core.Bool.{cond};
+ghost use mathlib.Core.Path.{_≡_};
+ghost use Prim.Native.Nat.{_-_, _≤_};
+ghost use Rattle.phase_greens.specs.Greens.{share as shareOf, shares as sharesIn, sharing as sharingOf, extra as extraOf, greenBy, possible as possibleAt};
+ghost use Rattle.phase_greens.specs.Slots.{noSlot, slotsOf, firstShortIn};
+use laws::above;
+use phase_lengths::Phase;
+use phase_lengths::Phases;
+
+// What is shared out at a length of the cycle: the seconds of effective green, over the sum of the flow ratios, and the seconds that are
+// left over after rounding down.
+pub struct Sharing {
+    pub seconds: u16,
+    pub ratios: u64,
+    pub left: u64,
+}
+
+// A phase's start and its green, in seconds.
+pub struct Slot {
+    pub start: u64,
+    pub green: u64,
+}
+
+// Those of six places; of an empty place the green is 0.
+pub struct Slots {
+    pub of: [Slot; 6],
+}
+
+// (34): a phase's part of the seconds by its flow ratio, rounded down; 0 where the sum of ratios is 0.
+fn share(ratio: u32, seconds: u16, ratios: u64) -> u64
+    ensures { λ r. ⌜ r ≡ shareOf ratio seconds ratios ⌝ }
+    ensures small { λ r. ⌜ r ≤ 281474976710656 ⌝ }
+{
+    if ratios == 0 {
+        return 0;
+    }
+    ratio as u64 * seconds as u64 / ratios
+}
+
+// The sum of the phases' parts.
+fn shares(q: Phases, seconds: u16, ratios: u64) -> u64
+    ensures { λ r. ⌜ r ≡ sharesIn q seconds ratios ⌝ }
+{
+    let mut total: u64 = 0;
+    let mut i: usize = 0;
+    while i < 6 {
+        let p = q.of[i];
+        total += share(p.ratio, seconds, ratios);
+        i += 1;
+    }
+    total
+}
+
+// The difference, or 0 where it would be below 0.
+fn spare(t: u16, lost: u64) -> u16
+    ensures { λ r. ⌜ r ≡ t - lost ⌝ }
+{
+    if (t as u64) < lost {
+        return 0;
+    }
+    (t as u64 - lost) as u16
+}
+
+// What is shared out at a length.
+pub fn shared_out(q: Phases, t: u16) -> Sharing
+    ensures { λ r. ⌜ r ≡ sharingOf q t ⌝ }
+{
+    let seconds = spare(t, phase_lengths::lost_time(q));
+    let ratios = phase_lengths::ratio_sum(q);
+    let given = shares(q, seconds, ratios);
+    Sharing {
+        seconds,
+        ratios,
+        left: above(seconds as u64, given),
+    }
+}
+
+// 1 for a phase with cars, else 0.
+fn one(cars: bool) -> u64
+    ensures { λ r. ⌜ r ≡ cond cars 1 0 ⌝ }
+    ensures small { λ r. ⌜ r ≤ 1 ⌝ }
+{
+    if cars { 1 } else { 0 }
+}
+
+// One second more for a phase with fewer phases with cars before it than there are seconds left over.
+fn extra(before: u64, left: u64) -> u64
+    ensures { λ r. ⌜ r ≡ extraOf before left ⌝ }
+    ensures small { λ r. ⌜ r ≤ 1 ⌝ }
+{
+    if before < left { 1 } else { 0 }
+}
+
+// The green of a phase with so many phases with cars before it: effective green less 1 with cars (36), the need without.
+fn green_of(p: Phase, s: Sharing, before: u64) -> u64
+    ensures { λ r. ⌜ r ≡ greenBy p s before ⌝ }
+    ensures small { λ r. ⌜ r ≤ 281474976710656 ⌝ }
+{
+    if p.cars {
+        return above(
+            share(p.ratio, s.seconds, s.ratios) + extra(before, s.left),
+            1,
+        );
+    }
+    p.need as u64
+}
+
+fn no_slot() -> Slot
+    ensures { λ r. ⌜ r ≡ noSlot ⌝ }
+{
+    Slot { start: 0, green: 0 }
+}
+
+// Start and green of each place: phase 1 starts at 0, each next after the greens and intergreens of those before it.
+pub fn slots_of(q: Phases, s: Sharing) -> Slots
+    ensures { λ r. ⌜ r ≡ slotsOf q s ⌝ }
+{
+    let mut all = Slots { of: [no_slot(); 6] };
+    let mut start: u64 = 0;
+    let mut before: u64 = 0;
+    let mut i: usize = 0;
+    while i < 6 {
+        let p = q.of[i];
+        let green = green_of(p, s, before);
+        all.of[i] = Slot { start, green };
+        start += green + p.intergreen as u64;
+        before += one(p.cars);
+        i += 1;
+    }
+    all
+}
+
+// The first of the first places whose green is below 1; their number where none is.
+fn first_short(slots: Slots, n: usize) -> usize
+    requires { ⌜ n ≤ 6 ⌝ }
+    ensures { λ r. ⌜ r ≡ firstShortIn slots n ⌝ }
+{
+    let mut i: usize = 0;
+    while i < n {
+        let slot = slots.of[i];
+        if slot.green < 1 {
+            return i;
+        }
+        i += 1;
+    }
+    i
+}
+
+// Whether a length is at least its lost time and gives every phase a green of 1 or more.
+pub fn possible(q: Phases, slots: Slots, t: u16) -> bool
+    requires count { ⌜ q .count ≤ 6 ⌝ }
+    requires slots { ⌜ slots ≡ slotsOf q (sharingOf q t) ⌝ }
+    ensures { λ r. ⌜ r ≡ possibleAt q t ⌝ }
+{
+    let short = first_short(slots, q.count);
+    (phase_lengths::lost_time(q) <= t as u64) & (q.count <= short)
+}

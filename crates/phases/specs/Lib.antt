@@ -1,4 +1,0 @@
-pub mod Fills
-pub mod First
-pub mod Phases
-pub mod Slots

@@ -1,0 +1,187 @@
+// Reads test cases on standard input, one a line, and prints the library's answer to each, to be read against the papers.
+//
+// A case is a word that says what is asked, a label, a colon and what is asked about; bytes are in hexadecimal, as crate `cases` reads them.
+//
+//     read LABEL: BYTES         a junction file: `taken` with the numbers of streams, zones and counts, or `refused`, number and place
+//     judge LABEL: BYTES        a plan file for the last junction file given: `accepted`, or `refused`, number and place
+//     plan LABEL: SIZE BYTES    a lent buffer's size and a junction file: the cycle, the lengths tried and the plan file's bytes, or `refused`,
+//                               number and place; then `kept` where every other byte, in the buffer and behind it, is what it was before
+//     junction: BYTES           gives the junction file for the plan files after it, and prints nothing
+//
+// The answer follows the line's text up to the colon. A case of another word is answered `not known`. An empty line and a line that begins
+// with `#` are printed as they are.
+ghost use Prim.Native.Nat.{_≤_};
+ghost use lib.ListN.{length};
+use cases::put;
+use cases::put_number;
+use fields::Verdict;
+use junction::Held;
+use libc::STDIN_FILENO;
+use working_out::Worked;
+
+// What every byte of a lent buffer is before.
+const BEFORE: u8 = 0xa5;
+
+// What is told of a junction file.
+struct Report {
+    verdict: Verdict,
+    held: Held,
+}
+
+fn main() {
+    let mut text = [0; 1048576];
+    let n = io::read_full(STDIN_FILENO, &mut text);
+    answer_lines(&text[0..n]);
+}
+
+fn answer_lines(text: &[u8]) {
+    // Where the last line that gives a junction file begins; the end before there is one.
+    let mut junction = text.len();
+    let mut at: usize = 0;
+    while at < text.len() {
+        junction = latest(text, at, junction);
+        answer_line(cases::line(text, at), cases::line(text, junction));
+        at = cases::next_line(text, at);
+    }
+}
+
+// The place of a line that gives a junction file, else the place of the one before.
+fn latest(text: &[u8], at: usize, before: usize) -> usize
+    requires { ⌜ at ≤ length (now text) ⌝ }
+    requires { ⌜ before ≤ length (now text) ⌝ }
+    ensures { λ r. ⌜ r ≤ length (now (text .entry)) ⌝ }
+{
+    if cases::begins(&text[at..], b"junction:") {
+        return at;
+    }
+    before
+}
+
+fn answer_line(line: &[u8], junction: &[u8]) {
+    if cases::begins(line, b"junction:") {
+        return;
+    }
+    if cases::is_comment(line) {
+        put(line);
+    } else {
+        put(cases::head(line));
+        answer(line, junction);
+    }
+    put(b"\n");
+}
+
+fn answer(line: &[u8], junction: &[u8]) {
+    if cases::begins(line, b"read ") {
+        return read(line);
+    }
+    if cases::begins(line, b"judge ") {
+        return judge(junction, line);
+    }
+    if cases::begins(line, b"plan ") {
+        return plan(line);
+    }
+    put(b" not known");
+}
+
+// Prints a refusal, and answers whether there is none.
+fn passed(verdict: Verdict) -> bool {
+    match verdict {
+        Verdict::Passed => true,
+        Verdict::Refused { number, place } => {
+            put(b" refused");
+            put_number(number as usize);
+            put_number(place);
+            false
+        }
+    }
+}
+
+fn read(line: &[u8]) {
+    let mut file = cases::file();
+    let size = cases::fill(line, &mut file);
+    tell_report(read_file(&file[0..size]));
+}
+
+fn read_file(file: &[u8]) -> Report {
+    let reading = reading::read(file);
+    let verdict = reading.verdict;
+    let held = reading.junction.held;
+    Report { verdict, held }
+}
+
+fn tell_report(report: Report) {
+    let verdict = report.verdict;
+    if passed(verdict) {
+        put(b" taken");
+        put_number(report.held.streams);
+        put_number(report.held.zones);
+        put_number(report.held.counts);
+    }
+}
+
+fn judge(junction_line: &[u8], line: &[u8]) {
+    let mut junction = cases::file();
+    let size = cases::fill(junction_line, &mut junction);
+    judge_for(&junction[0..size], line);
+}
+
+fn judge_for(junction: &[u8], line: &[u8]) {
+    let mut plan = cases::file();
+    let size = cases::fill(line, &mut plan);
+    if passed(judging::judge(junction, &plan[0..size])) {
+        put(b" accepted");
+    }
+}
+
+fn plan(line: &[u8]) {
+    let mut junction = cases::file();
+    let size = cases::fill_after_number(line, &mut junction);
+    work_out(&junction[0..size], cases::number(line, 300));
+}
+
+fn work_out(junction: &[u8], room: usize)
+    requires { ⌜ room ≤ 300 ⌝ }
+{
+    let mut out = [BEFORE; 300];
+    let worked = lend(junction, room, &mut out);
+    let size = tell_worked(worked, read_file(junction).held.streams);
+    cases::put_bytes(&out[0..size]);
+    tell_kept(&out[size..]);
+}
+
+// The first bytes of the buffer are lent on.
+fn lend(junction: &[u8], room: usize, out: &mut [u8]) -> Worked
+    requires { ⌜ room ≤ length (now out) ⌝ }
+{
+    working_out::work_out(junction, &mut out[0..room])
+}
+
+// Prints all but the bytes of the plan file, and answers how many these are.
+fn tell_worked(worked: Worked, streams: usize) -> usize
+    ensures { λ r. ⌜ r ≤ 300 ⌝ }
+{
+    let verdict = worked.verdict;
+    if passed(verdict) {
+        put(b" cycle");
+        put_number(worked.cycle as usize);
+        put(b" tried");
+        put_number(worked.tried as usize);
+        put(b" plan ");
+        return plan_size(streams);
+    }
+    0
+}
+
+fn plan_size(streams: usize) -> usize
+    ensures { λ r. ⌜ r ≤ 300 ⌝ }
+{
+    if streams <= 16 { 5 + 8 * streams } else { 0 }
+}
+
+fn tell_kept(rest: &[u8]) {
+    if cases::begins(&[BEFORE; 300], rest) {
+        put(b" kept");
+    } else {
+        put(b" spoilt");
+    }
+}

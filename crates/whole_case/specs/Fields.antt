@@ -1,0 +1,34 @@
+-- The fields of the whole case and of files near it, byte by byte, with the bytes that a case changes as parameters.
+use Prim.Native.Nat.{ℕ, _/_, _%_}
+use mathlib.Core.List.{List, [], _∷_}
+
+-- junction number 7, design day 9,000
+unfoldable pub heading : List ℕ
+heading = 1 ∷ 0 ∷ 4 ∷ 0 ∷ 7 ∷ 35 ∷ 40 ∷ []
+
+-- a car of phase 1 with an amber: standing, straight, width 350, one row, level, medium, no shares
+unfoldable pub car : ℕ → List ℕ
+car amber = 2 ∷ 0 ∷ 13 ∷ 1 ∷ 1 ∷ amber ∷ 0 ∷ 0 ∷ 0 ∷ 1 ∷ 94 ∷ 1 ∷ 10 ∷ 2 ∷ 0 ∷ 0 ∷ []
+
+-- a pedestrian of phase 2: speed 12, crossing 70, 200 people, reach uncounted, undisturbed
+unfoldable pub pedestrian : List ℕ
+pedestrian = 2 ∷ 0 ∷ 9 ∷ 3 ∷ 2 ∷ 12 ∷ 0 ∷ 70 ∷ 0 ∷ 200 ∷ 0 ∷ 0 ∷ []
+
+-- a cyclist of a phase, with the byte that says whether its reach is counted
+unfoldable pub cyclist : ℕ → ℕ → List ℕ
+cyclist phase counted = 2 ∷ 0 ∷ 3 ∷ 4 ∷ phase ∷ counted ∷ []
+
+-- a zone of two streams: 140, 75, 70, 0
+unfoldable pub zone : ℕ → ℕ → List ℕ
+zone a b = 3 ∷ 0 ∷ 10 ∷ a ∷ b ∷ 0 ∷ 140 ∷ 0 ∷ 75 ∷ 0 ∷ 70 ∷ 0 ∷ 0 ∷ []
+
+-- a count of stream 1, day 8,960 and so many, file day 0, with a flow
+unfoldable pub count : ℕ → ℕ → List ℕ
+count day flow = 4 ∷ 0 ∷ 7 ∷ 1 ∷ 35 ∷ day ∷ 0 ∷ 0 ∷ flow / 256 ∷ flow % 256 ∷ []
+
+-- a plan's field 11 with its cycle, and field 12 of a stream with start and length, all below 256
+unfoldable pub cycle11 : ℕ → List ℕ
+cycle11 cycle = 17 ∷ 0 ∷ 2 ∷ 0 ∷ cycle ∷ []
+
+unfoldable pub green12 : ℕ → ℕ → ℕ → List ℕ
+green12 stream start length = 18 ∷ 0 ∷ 5 ∷ stream ∷ 0 ∷ start ∷ 0 ∷ length ∷ []

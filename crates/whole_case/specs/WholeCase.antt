@@ -1,0 +1,129 @@
+-- The whole case of document 01, byte for byte, through the definitions: nothing that is promised of a file is empty.
+use Prim.Native.Nat.{ℕ}
+use mathlib.Core.List.{List, [], _∷_, _++_}
+use mathlib.Core.Path.{_≡_, refl}
+use lib.ListN.{replicate}
+use Rattle.laws.specs.Filled.{filled}
+use Rattle.laws.specs.Largest.{largestOf}
+use Rattle.laws.specs.Search.{firstOf, firstBelow}
+use Rattle.fields.specs.Bytes.{byteAt, numberAt, fieldEnd, fits, bodyOf, byteIn, numberIn}
+use Rattle.fields.specs.Verdict.{firstFailing, askEach}
+use Rattle.fields.specs.declared.Verdict.the-variants.{Passed, Refused}
+use Rattle.counts.specs.Newest.{usable, rank, rankFlow}
+use Rattle.junction.specs.Layout.{designDay, radiusInRange, sharesInRange, carInRange, carOf, tramInRange, tramOf}
+use Rattle.junction.specs.Layout.{pedestrianInRange, pedestrianOf, cyclistInRange, cyclistOf, streamLengthRight, streamInRange, kindOf, streamOf, zoneInRange, zoneOf, countInRange, countOf}
+use Rattle.questions.specs.Questions.{inOrder, lengthRight, inRange, withinLimit, streamAt, countAt, zoneAt, streamNumbered, zoneNumbered}
+use Rattle.questions.specs.Questions.{exists, zoneRefers, countRefers, refers, bodyVerdict, fieldVerdict, inPhase, firstInPhase, phaseUsed, phaseFollows, phasesRight, carAt}
+use Rattle.questions.specs.Questions.{firstCar, rankAt, newestRank, lacksCount, firstLacking, countsVerdict, whole, wholeVerdict}
+use Rattle.reading.specs.Reading.{withHeading, withStream, withZone, withCount, withField, afterField, readField, atEnd, readFrom, reading}
+use Rattle.junction_figures.specs.Figures.{forward, backward, zoneEntry, pairEntry, streamNeed, streamFlow, streamSaturation, streamRatio}
+use Rattle.plans.specs.Plans.{dueVerdict, cycleExpected, cycleVerdict, greenExpected, greenInRange, greenVerdict, greensFrom, planVerdict, greenAt as fileGreen, planOf, greenOf}
+use Rattle.plans.specs.Writing.{planSize, cycleByte, greenByte, planByte, hasRoom, written}
+use Rattle.rules.specs.Rules.{needMet, enoughCapacity, capacityMet, off, zoneClear, zoneMet, rulesVerdict}
+use Rattle.judging.specs.Judgement.{planJudgement, judgement}
+use Rattle.phase_lengths.specs.Phases.{lostTime}
+use Rattle.junction_phases.specs.JunctionPhases.{isIn, carIn, figure, largest, phaseCount, slow, nextPhase, entryBetween, zoneFigure, phaseEntry, intergreen, phaseAt, phasesAt}
+use Rattle.planning.specs.Planning.{ratios, firstTried, phaseGreen, planAt, works, cycleFrom, cycle, found}
+use Rattle.working_out.specs.WorkingOut.{calculation, junctionVerdict, junctionWorked, junctionBuffer, worked, buffer}
+use Rattle.worked_values.specs.Computed.{toTimes, toFlows, toPhases}
+use Rattle.whole_case.specs.Fields.{heading, car, pedestrian, zone, count, cycle11, green12}
+
+-- WC: the junction file with design day 9,000, the car, the pedestrian, their zone, and 600 E/h counted on the design day
+unfoldable pub WC : List ℕ
+unfolding heading car pedestrian zone count
+WC = heading ++ car 3 ++ pedestrian ++ zone 1 2 ++ count 40 600
+
+-- WP: its plan file, with the second stream's start
+unfoldable pub planFrom : ℕ → List ℕ
+unfolding cycle11 green12
+planFrom start = cycle11 50 ++ green12 1 0 35 ++ green12 2 start 6
+
+unfoldable pub WP : List ℕ
+unfolding planFrom
+WP = planFrom 40
+
+-- byte for byte; the plan's bytes are those that document 01 prints
+wc-bytes : WC ≡ 1 ∷ 0 ∷ 4 ∷ 0 ∷ 7 ∷ 35 ∷ 40 ∷
+    2 ∷ 0 ∷ 13 ∷ 1 ∷ 1 ∷ 3 ∷ 0 ∷ 0 ∷ 0 ∷ 1 ∷ 94 ∷ 1 ∷ 10 ∷ 2 ∷ 0 ∷ 0 ∷
+    2 ∷ 0 ∷ 9 ∷ 3 ∷ 2 ∷ 12 ∷ 0 ∷ 70 ∷ 0 ∷ 200 ∷ 0 ∷ 0 ∷
+    3 ∷ 0 ∷ 10 ∷ 1 ∷ 2 ∷ 0 ∷ 140 ∷ 0 ∷ 75 ∷ 0 ∷ 70 ∷ 0 ∷ 0 ∷
+    4 ∷ 0 ∷ 7 ∷ 1 ∷ 35 ∷ 40 ∷ 0 ∷ 0 ∷ 2 ∷ 88 ∷ []
+unfolding WC
+wc-bytes = refl
+
+wp-bytes : WP ≡ 17 ∷ 0 ∷ 2 ∷ 0 ∷ 50 ∷ 18 ∷ 0 ∷ 5 ∷ 1 ∷ 0 ∷ 0 ∷ 0 ∷ 35 ∷ 18 ∷ 0 ∷ 5 ∷ 2 ∷ 0 ∷ 40 ∷ 0 ∷ 6 ∷ []
+unfolding WP
+wp-bytes = refl
+
+-- the definitions that a closed theorem computes with
+unfoldable pub toRead : Unit {0}
+unfolding WC WP planFrom reading readFrom atEnd readField afterField withField withHeading withStream withZone withCount
+    fieldVerdict bodyVerdict inOrder lengthRight inRange withinLimit refers zoneRefers countRefers exists
+    streamNumbered streamAt countAt zoneAt wholeVerdict whole countsVerdict firstLacking lacksCount newestRank rankAt
+    firstCar carAt phasesRight phaseFollows phaseUsed firstInPhase inPhase largestOf firstBelow firstOf rank usable
+    designDay radiusInRange sharesInRange carInRange carOf tramInRange tramOf pedestrianInRange pedestrianOf cyclistInRange cyclistOf
+    streamLengthRight streamInRange kindOf streamOf zoneInRange zoneOf countInRange countOf
+    byteAt numberAt fieldEnd fits bodyOf byteIn numberIn
+toRead = tt
+
+taken : reading WC .verdict ≡ Passed
+unfolding toRead
+taken = refl
+
+unfoldable pub toJudge : Unit {0}
+unfolding toRead toTimes toFlows filled firstFailing askEach rankFlow zoneNumbered
+    forward backward zoneEntry pairEntry streamNeed streamFlow streamSaturation streamRatio
+    dueVerdict cycleExpected cycleVerdict greenExpected greenInRange greenVerdict greensFrom planVerdict fileGreen planOf greenOf
+    needMet enoughCapacity capacityMet off zoneClear zoneMet rulesVerdict planJudgement judgement
+toJudge = tt
+
+saturation : streamSaturation (reading WC .junction) 1 ≡ 1925
+unfolding toJudge
+saturation = refl
+
+flow-ratio : streamRatio (reading WC .junction) 1 ≡ 3117
+unfolding toJudge
+flow-ratio = refl
+
+entry-ahead : pairEntry (reading WC .junction) 1 2 ≡ 5
+unfolding toJudge
+entry-ahead = refl
+
+entry-behind : pairEntry (reading WC .junction) 2 1 ≡ 4
+unfolding toJudge
+entry-behind = refl
+
+formed : planVerdict WP (reading WC .junction .held .streams) ≡ Passed
+unfolding toJudge
+formed = refl
+
+accepted : judgement WC WP ≡ Passed
+unfolding toJudge
+accepted = refl
+
+too-early : judgement WC (planFrom 39) ≡ Refused 17 1
+unfolding toJudge
+too-early = refl
+
+unfoldable pub toPlan : Unit {0}
+unfolding toJudge toPhases planSize cycleByte greenByte planByte hasRoom written
+    isIn carIn figure largest phaseCount slow nextPhase entryBetween zoneFigure phaseEntry intergreen phaseAt phasesAt
+    ratios firstTried phaseGreen planAt works cycleFrom cycle found calculation junctionVerdict junctionWorked junctionBuffer worked buffer
+toPlan = tt
+
+lost-time : lostTime (phasesAt (reading WC .junction) 50) ≡ 14
+unfolding toPlan
+lost-time = refl
+
+first-length : firstTried (reading WC .junction) ≡ 50
+unfolding toPlan
+first-length = refl
+
+planned : worked WC 21 ≡ record { verdict = Passed; cycle = 50; tried = 1 }
+unfolding toPlan
+planned = refl
+
+-- every byte of the plan is written, and no other
+left : buffer WC (replicate 23 255) ≡ WP ++ (255 ∷ 255 ∷ [])
+unfolding toPlan
+left = refl

@@ -1,0 +1,1 @@
+// A value for every constant of the annex, worked by hand: theorems alone.

@@ -1,0 +1,58 @@
+//! The C library for Rust: `include/givendra.h`, which says what each function answers, declared once for the tests and the benchmark.
+
+#[repr(C)]
+#[derive(Clone, Copy, PartialEq, Eq, Debug)]
+pub struct JudgeAnswer {
+    pub place: usize,
+    pub refusal: u8,
+}
+
+#[repr(C)]
+#[derive(Clone, Copy, PartialEq, Eq, Debug)]
+pub struct PlanAnswer {
+    pub place: usize,
+    pub refusal: u8,
+    pub cycle: u16,
+    pub tried: u16,
+}
+
+#[repr(C)]
+#[derive(Clone, Copy, PartialEq, Eq, Debug)]
+pub struct JunctionAnswer {
+    pub place: usize,
+    pub refusal: u8,
+    pub design_day: u16,
+    pub streams: usize,
+    pub zones: usize,
+    pub counts: usize,
+}
+
+#[repr(C)]
+#[derive(Clone, Copy, PartialEq, Eq, Debug)]
+pub struct Figure {
+    pub place: usize,
+    pub refusal: u8,
+    pub value: u32,
+}
+
+#[repr(C)]
+#[derive(Clone, Copy, PartialEq, Eq, Debug)]
+pub struct CountRecord {
+    pub stream: u8,
+    pub count_day: u16,
+    pub file_day: u16,
+    pub flow: u16,
+}
+
+// Not bundled: only a program that calls the library needs it, so tests that do not are linked without it.
+#[link(name = "givendra", kind = "static", modifiers = "-bundle")]
+extern "C" {
+    pub fn givendra_judge(junction: *const u8, junction_length: usize, plan: *const u8, plan_length: usize) -> JudgeAnswer;
+    pub fn givendra_work_out(junction: *const u8, junction_length: usize, buffer: *mut u8, buffer_length: usize) -> PlanAnswer;
+    pub fn givendra_read_junction(junction: *const u8, junction_length: usize) -> JunctionAnswer;
+    pub fn givendra_intergreen(junction: *const u8, junction_length: usize, from: usize, to: usize) -> Figure;
+    pub fn givendra_need(junction: *const u8, junction_length: usize, stream: usize, cycle: u16) -> Figure;
+    pub fn givendra_saturation_flow(junction: *const u8, junction_length: usize, stream: usize) -> Figure;
+    pub fn givendra_flow_ratio(junction: *const u8, junction_length: usize, stream: usize) -> Figure;
+    pub fn givendra_newest_count(list: *const CountRecord, list_length: usize, stream: usize, design_day: u16) -> Figure;
+}

@@ -1,0 +1,300 @@
+/* Calls every function of include/givendra.h and prints every member of its answers. tests/library.sh compiles it as C and as C++ and compares
+ * what each prints with tests/header.txt, whose lines are worked out by hand from document 01 and the annex's tables. */
+#include "givendra.h"
+#include <stdio.h>
+#include <string.h>
+
+struct file {
+    const char *name;
+    const uint8_t *bytes;
+    size_t length;
+};
+
+#define LENGTH(array) (sizeof(array) / sizeof((array)[0]))
+
+/* Document 01's whole case on the design day 9000, field by field: each with its offset. */
+#define HEADING 0x01, 0x00, 0x04, 0x00, 0x07, 0x23, 0x28                                                     /* 0 */
+#define CAR 0x02, 0x00, 0x0d, 0x01, 0x01, 0x03, 0x00, 0x00, 0x00, 0x01, 0x5e, 0x01, 0x0a, 0x02, 0x00, 0x00   /* 7, phase 1 */
+#define PEDESTRIAN 0x02, 0x00, 0x09, 0x03, 0x02, 0x0c, 0x00, 0x46, 0x00, 0xc8, 0x00, 0x00                    /* 23, phase 2 */
+#define ZONE 0x03, 0x00, 0x0a, 0x01, 0x02, 0x00, 0x8c, 0x00, 0x4b, 0x00, 0x46, 0x00, 0x00                    /* 35 */
+#define COUNT(high, low) 0x04, 0x00, 0x07, 0x01, 0x23, 0x28, 0x00, 0x00, high, low                           /* 48, up to 58 */
+/* A running tram in phase 2, 300 dm long, 18 an hour. It shares no zone. */
+#define TRAM 0x02, 0x00, 0x06, 0x02, 0x02, 0x00, 0x01, 0x2c, 0x12
+
+static const uint8_t whole_bytes[] = {HEADING, CAR, PEDESTRIAN, ZONE, COUNT(0x02, 0x58)}; /* 600 E/h */
+static const uint8_t tram_bytes[] = {HEADING, CAR, PEDESTRIAN, TRAM, ZONE, COUNT(0x02, 0x58)};
+static const uint8_t full_bytes[] = {HEADING, CAR, PEDESTRIAN, ZONE, COUNT(0x07, 0x85)}; /* 1,925 E/h */
+static const uint8_t busy_bytes[] = {HEADING, CAR, PEDESTRIAN, ZONE, COUNT(0x07, 0x22)}; /* 1,826 E/h */
+
+static const struct file whole = {"the whole case", whole_bytes, sizeof whole_bytes};
+static const struct file with_tram = {"with a tram", tram_bytes, sizeof tram_bytes};
+static const struct file full = {"flow 1,925", full_bytes, sizeof full_bytes};
+static const struct file busy = {"flow 1,826", busy_bytes, sizeof busy_bytes};
+
+/* Files that are refused, whatever else is asked: the empty one by 8 at its length; without its last byte the count does not fit, 2 at 48;
+ * without its count the car has none, 9 at stream 1. */
+static const struct file refused[] = {
+    {"no byte", whole_bytes, 0},
+    {"the last byte cut off", whole_bytes, 57},
+    {"no count", whole_bytes, 48},
+};
+
+/* Numbers that no stream of the whole case has; the last two are 2 where they are cut to 8 or to 32 bits. */
+static const size_t absent[] = {0, 3, 258, 4294967298};
+
+/* The whole case's plan: cycle 50, then the streams' starts and lengths, 0 and 35, 40 and 6. */
+static const uint8_t plan[] = {
+    0x11, 0x00, 0x02, 0x00, 0x32,                   /* 0 */
+    0x12, 0x00, 0x05, 0x01, 0x00, 0x00, 0x00, 0x23, /* 5 */
+    0x12, 0x00, 0x05, 0x02, 0x00, 0x28, 0x00, 0x06, /* 13 */
+};
+
+/* The layout on x86-64: each member at a multiple of its own size, the whole a multiple of its largest. */
+static void layout(void)
+{
+    printf("judge_answer: size %zu place %zu refusal %zu\n", sizeof(struct givendra_judge_answer),
+           offsetof(struct givendra_judge_answer, place), offsetof(struct givendra_judge_answer, refusal));
+    printf("plan_answer: size %zu place %zu refusal %zu cycle %zu tried %zu\n", sizeof(struct givendra_plan_answer),
+           offsetof(struct givendra_plan_answer, place), offsetof(struct givendra_plan_answer, refusal),
+           offsetof(struct givendra_plan_answer, cycle), offsetof(struct givendra_plan_answer, tried));
+    printf("junction_answer: size %zu place %zu refusal %zu design_day %zu streams %zu zones %zu counts %zu\n",
+           sizeof(struct givendra_junction_answer), offsetof(struct givendra_junction_answer, place),
+           offsetof(struct givendra_junction_answer, refusal), offsetof(struct givendra_junction_answer, design_day),
+           offsetof(struct givendra_junction_answer, streams), offsetof(struct givendra_junction_answer, zones),
+           offsetof(struct givendra_junction_answer, counts));
+    printf("figure: size %zu place %zu refusal %zu value %zu\n", sizeof(struct givendra_figure), offsetof(struct givendra_figure, place),
+           offsetof(struct givendra_figure, refusal), offsetof(struct givendra_figure, value));
+    printf("count_record: size %zu stream %zu count_day %zu file_day %zu flow %zu\n", sizeof(struct givendra_count_record),
+           offsetof(struct givendra_count_record, stream), offsetof(struct givendra_count_record, count_day),
+           offsetof(struct givendra_count_record, file_day), offsetof(struct givendra_count_record, flow));
+}
+
+/* ---- one call, printed */
+
+static void read_junction(struct file j)
+{
+    struct givendra_junction_answer a = givendra_read_junction(j.bytes, j.length);
+    printf("read_junction, %s: refusal %u place %zu design_day %u streams %zu zones %zu counts %zu\n", j.name, a.refusal, a.place,
+           a.design_day, a.streams, a.zones, a.counts);
+}
+
+static void figure(struct givendra_figure a)
+{
+    printf("refusal %u place %zu value %u\n", a.refusal, a.place, a.value);
+}
+
+static void intergreen(struct file j, size_t from, size_t to)
+{
+    printf("intergreen, %s, from %zu to %zu: ", j.name, from, to);
+    figure(givendra_intergreen(j.bytes, j.length, from, to));
+}
+
+static void need(struct file j, size_t stream, uint16_t cycle)
+{
+    printf("need, %s, stream %zu at cycle %u: ", j.name, stream, cycle);
+    figure(givendra_need(j.bytes, j.length, stream, cycle));
+}
+
+static void saturation_flow(struct file j, size_t stream)
+{
+    printf("saturation_flow, %s, stream %zu: ", j.name, stream);
+    figure(givendra_saturation_flow(j.bytes, j.length, stream));
+}
+
+static void flow_ratio(struct file j, size_t stream)
+{
+    printf("flow_ratio, %s, stream %zu: ", j.name, stream);
+    figure(givendra_flow_ratio(j.bytes, j.length, stream));
+}
+
+static void newest_count(const char *what, const struct givendra_count_record *list, size_t length, size_t stream, uint16_t design_day)
+{
+    printf("newest_count, %s, stream %zu: ", what, stream);
+    figure(givendra_newest_count(list, length, stream, design_day));
+}
+
+/* Lends the first bytes of a memory that is longer than the plan and filled with a5, and prints all of it. */
+static void work_out(struct file j, size_t buffer_length)
+{
+    uint8_t memory[GIVENDRA_PLAN_LENGTH(2) + 3];
+    memset(memory, 0xa5, sizeof memory);
+    struct givendra_plan_answer a = givendra_work_out(j.bytes, j.length, memory, buffer_length);
+    printf("work_out, %s, %zu bytes: refusal %u place %zu cycle %u tried %u\n ", j.name, buffer_length, a.refusal, a.place, a.cycle, a.tried);
+    for (size_t i = 0; i < sizeof memory; i++)
+        printf(" %02x", memory[i]);
+    printf("\n");
+}
+
+static void judge(const char *what, struct file j, const uint8_t *bytes, size_t length)
+{
+    struct givendra_judge_answer a = givendra_judge(j.bytes, j.length, bytes, length);
+    printf("judge, %s: refusal %u place %zu\n", what, a.refusal, a.place);
+}
+
+/* The whole case's plan with another byte at a place. */
+static void judge_changed(const char *what, size_t place, uint8_t byte)
+{
+    uint8_t changed[sizeof plan];
+    memcpy(changed, plan, sizeof plan);
+    changed[place] = byte;
+    judge(what, whole, changed, sizeof changed);
+}
+
+/* ---- the blocks of tests/header.txt */
+
+/* What a file holds, and the refused files. */
+static void reading(void)
+{
+    read_junction(whole);
+    read_junction(with_tram);
+    for (size_t i = 0; i < LENGTH(refused); i++)
+        read_junction(refused[i]);
+}
+
+/* Entries 5 and 4; 0 where nothing is shared, and from a stream to itself. 7 for a stream that is not there, the one that leaves first. The
+ * junction's questions come before 7. */
+static void intergreens(void)
+{
+    intergreen(whole, 1, 2);
+    intergreen(whole, 2, 1);
+    intergreen(whole, 1, 1);
+    intergreen(with_tram, 1, 3);
+    for (size_t i = 0; i < LENGTH(absent); i++)
+        intergreen(whole, absent[i], 2);
+    for (size_t i = 0; i < LENGTH(absent); i++)
+        intergreen(whole, 1, absent[i]);
+    intergreen(whole, 3, 0);
+    intergreen(whole, 0, 3);
+    for (size_t i = 0; i < LENGTH(refused); i++)
+        intergreen(refused[i], 0, 0);
+}
+
+/* A car's 8 s; the pedestrian's 70/12 rounded up; the tram's by Table 3, 18 an hour: 10 s up to a cycle of 100 s, then 20 s. 13 for a cycle not
+ * from 1 to 180, after 7, which comes after the junction's questions. */
+static void needs(void)
+{
+    need(whole, 1, 50);
+    need(whole, 2, 50);
+    need(with_tram, 3, 100);
+    need(with_tram, 3, 101);
+    need(whole, 1, 1);
+    need(whole, 1, 180);
+    need(whole, 1, 0);
+    need(whole, 1, 181);
+    need(whole, 2, 65535);
+    for (size_t i = 0; i < LENGTH(absent); i++)
+        need(whole, absent[i], 50);
+    need(whole, 3, 0);
+    need(whole, 3, 181);
+    for (size_t i = 0; i < LENGTH(refused); i++)
+        need(refused[i], 0, 0);
+}
+
+/* Table 1 at 350 cm, 1,925 E/h; 10,000 x 600/1,925 is 3,116.9, so y is 3,117, and with 1,925 E/h 10,000. 7 for a stream that is no car or is
+ * not there, after the junction's questions. */
+static void flows(void)
+{
+    saturation_flow(whole, 1);
+    saturation_flow(whole, 2);
+    saturation_flow(with_tram, 3);
+    for (size_t i = 0; i < LENGTH(absent); i++)
+        saturation_flow(whole, absent[i]);
+    for (size_t i = 0; i < LENGTH(refused); i++)
+        saturation_flow(refused[i], 0);
+    flow_ratio(whole, 1);
+    flow_ratio(full, 1);
+    flow_ratio(whole, 2);
+    flow_ratio(with_tram, 3);
+    for (size_t i = 0; i < LENGTH(absent); i++)
+        flow_ratio(whole, absent[i]);
+    for (size_t i = 0; i < LENGTH(refused); i++)
+        flow_ratio(refused[i], 0);
+}
+
+/* Records are stream, count day, file day, flow. Each list is asked for on the design day 9000. */
+static void counts(void)
+{
+    /* the latest day up to the design day, wherever it stands; the later record is passed over */
+    static const struct givendra_count_record days[] = {{1, 8999, 0, 500}, {1, 9000, 0, 600}, {1, 8000, 0, 900}, {1, 9001, 0, 700}};
+    newest_count("days", days, 4, 1, 9000);
+    newest_count("the first of the days", days, 1, 1, 9000);
+    newest_count("the last three of the days", days + 1, 3, 1, 9000);
+    newest_count("a design day later", days, 4, 1, 9001);
+    newest_count("the design day 8998", days, 4, 1, 8998);
+    newest_count("the design day 7999", days, 4, 1, 7999);
+    /* of equal days the larger flow, first or last */
+    static const struct givendra_count_record equals[] = {{1, 9000, 0, 600}, {1, 9000, 0, 610}, {1, 9000, 0, 605}};
+    newest_count("equal days", equals, 3, 1, 9000);
+    newest_count("the last two of the equal days", equals + 1, 2, 1, 9000);
+    /* the same days and flows with file days that would choose another one, or lie after the design day */
+    static const struct givendra_count_record file_days[] = {{1, 8999, 9000, 500}, {1, 9000, 8000, 600}, {1, 8000, 65535, 900}, {1, 9001, 9000, 700}};
+    newest_count("other file days", file_days, 4, 1, 9000);
+    /* other streams, and flows not from 1 to 9,999, are passed over */
+    static const struct givendra_count_record others[] = {{1, 8000, 0, 400}, {2, 9000, 0, 800}, {1, 9000, 0, 0}, {1, 9000, 0, 10000}, {1, 9000, 0, 65535}};
+    newest_count("others", others, 5, 1, 9000);
+    newest_count("others", others, 5, 2, 9000);
+    static const struct givendra_count_record least[] = {{1, 9000, 0, 1}}, most[] = {{1, 9000, 0, 9999}};
+    newest_count("the least flow", least, 1, 1, 9000);
+    newest_count("the greatest flow", most, 1, 1, 9000);
+    /* any stream number of a record and any day */
+    static const struct givendra_count_record any[] = {{0, 0, 0, 321}, {255, 65535, 0, 432}};
+    newest_count("day 0", any, 2, 0, 0);
+    newest_count("day 65,535", any, 2, 255, 65535);
+    /* none usable: an empty list, other streams, flows out of range; the last two streams are 1 where they are cut to 8 or to 32 bits */
+    newest_count("an empty list", days, 0, 1, 9000);
+    newest_count("days", days, 4, 2, 9000);
+    newest_count("flows out of range", others + 2, 3, 1, 9000);
+    newest_count("days", days, 4, 257, 9000);
+    newest_count("days", days, 4, 4294967297, 9000);
+}
+
+/* The whole case in a long buffer, whose later bytes stay, in one that just holds the plan, and in one a byte short, which stays. One length is
+ * tried, since T0 is 50: 50 x 50 x 6,883 is at least 1,200,000 x 14, and 49 x 49 x 6,883 is not. With 1,925 E/h Y is 10,000: 21. With
+ * 1,826 E/h Y is 9,486, and 180 x 180 x 514 is below 1,200,000 x 14: 22. Both come before 23, and the junction's questions before all. */
+static void working_out(void)
+{
+    printf("plan length: 0 streams %zu, 2 streams %zu, 1 + 1 streams %zu, 16 streams %zu\n", GIVENDRA_PLAN_LENGTH(0), GIVENDRA_PLAN_LENGTH(2),
+           GIVENDRA_PLAN_LENGTH(1 + 1), GIVENDRA_PLAN_LENGTH(16));
+    work_out(whole, 24);
+    work_out(whole, 21);
+    work_out(whole, 20);
+    work_out(whole, 0);
+    work_out(full, 24);
+    work_out(full, 20);
+    work_out(busy, 24);
+    work_out(busy, 20);
+    for (size_t i = 0; i < LENGTH(refused); i++)
+        work_out(refused[i], 20);
+}
+
+/* The plan, then one change at a time. Pedestrians a second earlier, before the last car has cleared the zone, and a second later, so that
+ * they have not cleared it for the next cycle's first car. 5 s for the pedestrians, who need 6. 14 s for the car, for which 600 x 50 is
+ * above 1,925 x 15, and 15 s, for which it is not above 1,925 x 16. Questions 11 to 13. The junction's questions come before all. */
+static void judging(void)
+{
+    judge("the plan", whole, plan, sizeof plan);
+    judge_changed("a start of 39", 18, 39);
+    judge_changed("a start of 41", 18, 41);
+    judge_changed("a length of 5", 20, 5);
+    judge_changed("a length of 14", 12, 14);
+    judge_changed("a length of 15", 12, 15);
+    judge_changed("cycle 0", 4, 0);
+    judge("six bytes of the plan", whole, plan, 6);
+    judge("five bytes of the plan", whole, plan, 5);
+    judge("no byte of a plan", whole, plan, 0);
+    for (size_t i = 0; i < LENGTH(refused); i++)
+        judge(refused[i].name, refused[i], plan, 6);
+}
+
+int main(void)
+{
+    layout();
+    reading();
+    intergreens();
+    needs();
+    flows();
+    counts();
+    working_out();
+    judging();
+    return 0;
+}
