@@ -5,8 +5,8 @@
  * anything; what is lent must be readable for its whole length, the buffer writable too, and a pointer is not NULL, even with the length 0.
  * The buffer does not overlap the junction file, and nothing else writes lent memory during a call.
  *
- * Every answer has a refusal's number and its place. Number 0: nothing is refused, and the place is 0. Any other number: the place says
- * where, and every other member is 0.
+ * Every answer but givendra_release's has a refusal's number and its place. Number 0: nothing is refused, and the place is 0. Any other
+ * number: the place says where, and every other member is 0.
  *
  *   The junction file's questions, place a byte's offset in the file unless said:
  *    1  longer than 16,384 bytes (place 0)        6  more than 16 streams, 64 zones or 128 counts
@@ -31,6 +31,11 @@
 #ifdef __cplusplus
 extern "C" {
 #endif
+
+/* The release of this header, raised by every release that changes a struct or what a function takes. Header and archive belong together
+ * where givendra_release() answers the same number. */
+#define GIVENDRA_RELEASE 1
+uint32_t givendra_release(void);
 
 struct givendra_judge_answer {
     size_t place;

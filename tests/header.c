@@ -1,7 +1,9 @@
 /* Calls every function of include/givendra.h and prints every member of its answers. tests/library.sh compiles it as C and as C++ and compares
- * what each prints with tests/header.txt, whose lines are worked out by hand from document 01 and the annex's tables. */
+ * what each prints with tests/header.txt, whose lines are worked out by hand from document 01 and the annex's tables. It also runs each under
+ * valgrind. */
 #include "givendra.h"
 #include <stdio.h>
+#include <stdlib.h>
 #include <string.h>
 
 struct file {
@@ -26,14 +28,14 @@ static const uint8_t tram_bytes[] = {HEADING, CAR, PEDESTRIAN, TRAM, ZONE, COUNT
 static const uint8_t full_bytes[] = {HEADING, CAR, PEDESTRIAN, ZONE, COUNT(0x07, 0x85)}; /* 1,925 E/h */
 static const uint8_t busy_bytes[] = {HEADING, CAR, PEDESTRIAN, ZONE, COUNT(0x07, 0x22)}; /* 1,826 E/h */
 
-static const struct file whole = {"the whole case", whole_bytes, sizeof whole_bytes};
-static const struct file with_tram = {"with a tram", tram_bytes, sizeof tram_bytes};
-static const struct file full = {"flow 1,925", full_bytes, sizeof full_bytes};
-static const struct file busy = {"flow 1,826", busy_bytes, sizeof busy_bytes};
+static struct file whole = {"the whole case", whole_bytes, sizeof whole_bytes};
+static struct file with_tram = {"with a tram", tram_bytes, sizeof tram_bytes};
+static struct file full = {"flow 1,925", full_bytes, sizeof full_bytes};
+static struct file busy = {"flow 1,826", busy_bytes, sizeof busy_bytes};
 
 /* Files that are refused, whatever else is asked: the empty one by 8 at its length; without its last byte the count does not fit, 2 at 48;
  * without its count the car has none, 9 at stream 1. */
-static const struct file refused[] = {
+static struct file refused[] = {
     {"no byte", whole_bytes, 0},
     {"the last byte cut off", whole_bytes, 57},
     {"no count", whole_bytes, 48},
@@ -48,6 +50,13 @@ static const uint8_t plan[] = {
     0x12, 0x00, 0x05, 0x01, 0x00, 0x00, 0x00, 0x23, /* 5 */
     0x12, 0x00, 0x05, 0x02, 0x00, 0x28, 0x00, 0x06, /* 13 */
 };
+
+/* The archive is of the header's release. */
+static void release(void)
+{
+    uint32_t archive = givendra_release();
+    printf("release: %u, %s\n", archive, archive == GIVENDRA_RELEASE ? "the header's" : "not the header's");
+}
 
 /* The layout on x86-64: each member at a multiple of its own size, the whole a multiple of its largest. */
 static void layout(void)
@@ -67,6 +76,30 @@ static void layout(void)
     printf("count_record: size %zu stream %zu count_day %zu file_day %zu flow %zu\n", sizeof(struct givendra_count_record),
            offsetof(struct givendra_count_record, stream), offsetof(struct givendra_count_record, count_day),
            offsetof(struct givendra_count_record, file_day), offsetof(struct givendra_count_record, flow));
+}
+
+/* ---- what is lent to be read */
+
+/* A copy in memory of just its length, where valgrind sees a byte that is read behind it. */
+static void *alone(const void *bytes, size_t length)
+{
+    return memcpy(malloc(length), bytes, length);
+}
+
+static void lend(struct file *file)
+{
+    file->bytes = (const uint8_t *)alone(file->bytes, file->length);
+}
+
+/* Once for all calls. */
+static void lend_files(void)
+{
+    lend(&whole);
+    lend(&with_tram);
+    lend(&full);
+    lend(&busy);
+    for (size_t i = 0; i < LENGTH(refused); i++)
+        lend(&refused[i]);
 }
 
 /* ---- one call, printed */
@@ -109,8 +142,10 @@ static void flow_ratio(struct file j, size_t stream)
 
 static void newest_count(const char *what, const struct givendra_count_record *list, size_t length, size_t stream, uint16_t design_day)
 {
+    void *lent = alone(list, length * sizeof *list);
     printf("newest_count, %s, stream %zu: ", what, stream);
-    figure(givendra_newest_count(list, length, stream, design_day));
+    figure(givendra_newest_count((const struct givendra_count_record *)lent, length, stream, design_day));
+    free(lent);
 }
 
 /* Lends the first bytes of a memory that is longer than the plan and filled with a5, and prints all of it. */
@@ -127,8 +162,10 @@ static void work_out(struct file j, size_t buffer_length)
 
 static void judge(const char *what, struct file j, const uint8_t *bytes, size_t length)
 {
-    struct givendra_judge_answer a = givendra_judge(j.bytes, j.length, bytes, length);
+    void *lent = alone(bytes, length);
+    struct givendra_judge_answer a = givendra_judge(j.bytes, j.length, (const uint8_t *)lent, length);
     printf("judge, %s: refusal %u place %zu\n", what, a.refusal, a.place);
+    free(lent);
 }
 
 /* The whole case's plan with another byte at a place. */
@@ -288,6 +325,8 @@ static void judging(void)
 
 int main(void)
 {
+    lend_files();
+    release();
     layout();
     reading();
     intergreens();

@@ -1,6 +1,6 @@
 #!/bin/sh
-# Makes the C library from crates that rt has proved; calls all of its header from C and C++, runs the C example, compiles the benchmark, and
-# compares the library with the model.
+# Makes the C library from crates that rt has proved; holds its declarations to each other; calls all of its header from C and C++ and runs the
+# C example, each also under valgrind; compiles the benchmark, and compares the library with the model.
 cd "$(dirname "$0")/.." || exit 1
 work=$(mktemp -d) || exit 1
 trap 'rm -rf "$work"' EXIT
@@ -11,29 +11,47 @@ failed=0
 # compiled COMPILER-WORDS.. SOURCE: compiles it to $work/program and links the library.
 compiled() { "$@" -pedantic -Wall -Wextra -Werror -O2 -Iinclude -Ltarget/staticlib -lgivendra -o "$work/program" || exit 1; }
 
-# Every function of the library is declared in the header and called by the test.
-for name in $(grep -oh 'givendra_[a-z_]*(' include/givendra.h crates/givendra/src/lib.rt | sort -u); do
-    for file in include/givendra.h tests/header.c; do
-        grep -qF "$name" $file || { echo "library: $file has no ${name%(}"; failed=1; }
-    done
-done
+# run NAME STATUS WORD..: runs the program with these words, to $work/out. It has to end with this status, and to do and write the same under
+# valgrind's memcheck, which has to report nothing.
+run() {
+    name=$1 status=$2
+    shift 2
+    "$work/program" "$@" > "$work/out"
+    [ $? = "$status" ] || { echo "library: $name does not end with status $status"; failed=1; }
+    valgrind --error-exitcode=9 --quiet --log-file="$work/report" "$work/program" "$@" > "$work/watched"
+    [ $? = "$status" ] && cmp "$work/out" "$work/watched" && [ ! -s "$work/report" ] || { echo "library: $name under valgrind:"; cat "$work/report"; failed=1; }
+}
+
+tests/declarations.sh || failed=1
+# The test calls every function of the crate.
+gcc -std=c99 -Iinclude -c -o "$work/header.o" tests/header.c || exit 1
+nm --undefined-only "$work/header.o" | grep -o 'givendra_.*' | sort > "$work/called"
+sed -n 's/^pub extern "C" fn \([a-z0-9_]*\)(.*/\1/p' crates/givendra/src/lib.rt | sort | diff - "$work/called" ||
+    { echo "library: tests/header.c does not call these functions"; failed=1; }
 for compiler in 'gcc -std=c99' 'g++ -x c++'; do
     compiled $compiler tests/header.c
-    "$work/program" > "$work/out" && diff tests/header.txt "$work/out" || { echo "library: $compiler: tests/header.c does not write tests/header.txt"; failed=1; }
+    run "tests/header.c by $compiler" 0
+    diff tests/header.txt "$work/out" || { echo "library: tests/header.c by $compiler does not write tests/header.txt"; failed=1; }
 done
 [ $failed = 0 ] && echo "library: every function of the header answers C and C++ what it should"
 
+# Streams 1 and 2 of the other examples are of one phase and share no zone.
 compiled gcc -std=c99 examples/desk.c
 for f in examples/*.junction; do
-    "$work/program" "$f" > "$work/out"
     plan=$(cat "${f%.junction}.txt")
-    case $plan in
-    refused*) expected=$plan ;;
-    *) expected=$(printf '%s\naccepted' "$plan") ;;
+    case $f in
+    */whole_case.junction) intergreen=5 ;;
+    *) intergreen=0 ;;
     esac
-    [ "$(grep -v '^intergreen' "$work/out")" = "$expected" ] || { echo "library: the C example on $f wrote:"; cat "$work/out"; failed=1; }
+    case $plan in
+    refused*) status=1 expected=$plan ;;
+    *) status=0 expected=$(printf '%s\naccepted\nintergreen from 1 to 2: %s s' "$plan" $intergreen) ;;
+    esac
+    run "the C example on $f" $status "$f"
+    [ "$(cat "$work/out")" = "$expected" ] || { echo "library: the C example on $f wrote:"; cat "$work/out"; failed=1; }
 done
-"$work/program" examples/whole_case.junction | grep -qx 'intergreen from 1 to 2: 5 s' || { echo "library: the whole case's intergreen differs"; failed=1; }
+"$work/program" "$work/none" 2> /dev/null
+[ $? = 2 ] || { echo "library: the C example does not end with status 2 where there is no file"; failed=1; }
 [ $failed = 0 ] && echo "library: the C example writes what it should"
 
 cargo build --release --offline --locked --quiet --package benchmark > "$work/log" 2>&1 || { tail -n 60 "$work/log"; exit 1; }

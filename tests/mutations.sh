@@ -3,7 +3,7 @@
 # of tests/mutations/ is one change: lines `FILES: SED-COMMANDS`, and lines `# refused: CRATE THEOREM` or `# printed: CRATE`. It is made in a copy of
 # the repository, and what it touches is proved again: each THEOREM must be among what is not accepted in its CRATE, every function of every
 # crate must be proved, and so must every crate that is not named; where CRATE is a program, what it prints must no longer be its file stdout. It
-# takes minutes for each, so the test command does not run it; `rt check` comes first.
+# takes from 20 s to 4 minutes for each, so the test command does not run it; `rt check` comes first.
 cd "$(dirname "$0")/.." || exit 1
 root=$PWD
 work=$(mktemp -d) || exit 1

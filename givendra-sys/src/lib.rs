@@ -1,5 +1,7 @@
 //! The C library for Rust: `include/givendra.h`, which says what each function answers, declared once for the tests and the benchmark.
 
+pub const GIVENDRA_RELEASE: u32 = 1;
+
 #[repr(C)]
 #[derive(Clone, Copy, PartialEq, Eq, Debug)]
 pub struct JudgeAnswer {
@@ -47,6 +49,7 @@ pub struct CountRecord {
 // Not bundled: only a program that calls the library needs it, so tests that do not are linked without it.
 #[link(name = "givendra", kind = "static", modifiers = "-bundle")]
 extern "C" {
+    pub fn givendra_release() -> u32;
     pub fn givendra_judge(junction: *const u8, junction_length: usize, plan: *const u8, plan_length: usize) -> JudgeAnswer;
     pub fn givendra_work_out(junction: *const u8, junction_length: usize, buffer: *mut u8, buffer_length: usize) -> PlanAnswer;
     pub fn givendra_read_junction(junction: *const u8, junction_length: usize) -> JunctionAnswer;

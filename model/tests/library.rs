@@ -1,7 +1,7 @@
 //! The proved library, called through its C entries, against the model.
 mod calls;
 use calls::*;
-use givendra_sys::{JunctionAnswer, PlanAnswer};
+use givendra_sys::{JunctionAnswer, PlanAnswer, GIVENDRA_RELEASE};
 use model::annex::{need as model_need, saturation, y_of, TABLE_3};
 use model::faults::*;
 use model::generate::*;
@@ -11,6 +11,12 @@ use model::random::{seed, Random};
 use model::times::Entries;
 use model::work_out::{search, write, Worked};
 use model::{meaning, read_plan, Plan, Refusal};
+
+/// The library is of the release that `givendra-sys` declares.
+#[test]
+fn same_release() {
+    assert_eq!(release(), GIVENDRA_RELEASE);
+}
 
 /// What the model says of a junction file: worked out once, asked often.
 struct Known {

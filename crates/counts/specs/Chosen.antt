@@ -10,7 +10,8 @@ use borrow.Author.Tests.{leb-true, le-leb, eqb-true, eq-eqb}
 use Rattle.laws.specs.Largest.{largestOf, largest-bounds, largest-found}
 use Rattle.laws.specs.Ranges.{Between}
 use Rattle.laws.specs.Tests.{by-test}
-use Rattle.counts.specs.Newest.{leastFlow, greatestFlow, usable, rank, rankDay, rankFlow}
+use Rattle.counts.specs.Newest.{usable, rank, rankDay, rankFlow}
+use Rattle.limits.specs.Limits.{leastFlow, greatestFlow}
 
 module _ (asked design : ℕ) (streams days flows : ℕ → ℕ) (n : ℕ) where
   -- the count at a place is of the stream asked for, not after the design day, with a flow in range

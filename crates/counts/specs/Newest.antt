@@ -3,13 +3,7 @@
 use Prim.Native.Nat.{ℕ, _+_, _*_, _/_, _%_}
 use mathlib.Core.Bool.{Bool, _&&_, cond}
 use lib.Dec.{leb, eqb}
-
--- the range of a flow in E/h
-abbrev pub leastFlow : ℕ
-leastFlow = 1
-
-abbrev pub greatestFlow : ℕ
-greatestFlow = 9999
+use Rattle.limits.specs.Limits.{leastFlow, greatestFlow}
 
 -- a count of the stream asked for, not after the design day, with a flow in range
 unfoldable pub usable : ℕ → ℕ → ℕ → ℕ → ℕ → Bool

@@ -21,15 +21,16 @@ use Rattle.flows.specs.Needs.{longestCycle, crossingSpeed, disturbance, kindNee
 use Rattle.flows.specs.Saturation.{saturationFlow}
 use Rattle.flows.specs.Meaning.{tram-once, tram-twice, pedestrian-least, numerator, denominator, saturation-greatest}
 use Rattle.junction.specs.declared.Junction.{Junction}
-use Rattle.questions.specs.Questions.{streamNumbered, numbered-at, zoneAt, exists, countRefers}
-use Rattle.reading.specs.Reading.{reading}
-use Rattle.reading.specs.Taken.{taken}
+use Rattle.junction_questions.specs.Questions.{countRefers}
+use Rattle.junction_places.specs.Places.{streamNumbered, numbered-at, zoneAt, exists}
+use Rattle.junction_file.specs.Reading.{reading}
+use Rattle.junction_file.specs.TakenFile.{taken}
 use Rattle.junction_description.specs.File.{FlowOf}
 use Rattle.junction_description.specs.Flows.{flow-counted}
 use Rattle.junction_figures.specs.Exact.{Clears, pair-exact}
 use Rattle.junction_figures.specs.Figures.{forward, backward, streamNeed, streamFlow, streamSaturation, streamRatio}
 use Rattle.junction_figures.specs.Positive.{stream-ratio-least}
-use Rattle.plans.specs.Plans.{cycleInRange}
+use Rattle.plan_file.specs.Plans.{cycleInRange}
 use Rattle.givendra.specs.Answers.{figure, intergreenVerdict, needVerdict, carVerdict, intergreenAnswer, needAnswer, saturationAnswer, ratioAnswer}
 
 -- the junction that a file says

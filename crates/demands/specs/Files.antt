@@ -6,17 +6,17 @@ use lib.ListN.{drop, replicate}
 use Rattle.laws.specs.Filled.{filled}
 use Rattle.laws.specs.Ranges.{Between}
 use Rattle.fields.specs.declared.Verdict.the-variants.{Passed}
-use Rattle.reading.specs.Reading.{reading}
-use Rattle.plans.specs.Writing.{planSize, planByte}
-use Rattle.plans.specs.declared.Plan.{Plan}
+use Rattle.junction_file.specs.Reading.{reading}
+use Rattle.plan_file.specs.Writing.{planSize, planByte}
+use Rattle.plan_file.specs.declared.Plan.{Plan}
 use Rattle.phase_lengths.specs.Phases.{lostTime}
 use Rattle.phase_greens.specs.Greens.{sharing, greenAt}
 use Rattle.junction_phases.specs.JunctionPhases.{phasesAt}
-use Rattle.planning.specs.Planning.{firstTried, planAt}
-use Rattle.judging.specs.Judgement.{judgement}
-use Rattle.working_out.specs.Demand2.{lengthsFromLost}
-use Rattle.working_out.specs.WorkingOut.{buffer}
-use Rattle.working_out.specs.declared.Worked.{Worked}
+use Rattle.cycle_search.specs.Planning.{firstTried, planAt}
+use Rattle.plan_judge.specs.Judgement.{judgement}
+use Rattle.planner.specs.Demand2.{lengthsFromLost}
+use Rattle.planner.specs.WorkingOut.{buffer}
+use Rattle.planner.specs.declared.Worked.{Worked}
 
 -- the bytes of a plan file
 unfoldable pub fileOf : Plan → ℕ → List ℕ

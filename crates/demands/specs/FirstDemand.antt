@@ -1,7 +1,7 @@
 -- The customer's first demand, whole: the answer to every junction file, every plan file and every lent buffer, however malformed or short, is
 -- a result or one numbered refusal with its place, and a refusal alters no lent byte.
 --
--- `reading`, `judgement`, `worked` and `buffer` are what `reading::read`, `judging::judge` and `working_out::work_out` are proved to answer and
+-- `reading`, `judgement`, `worked` and `buffer` are what `junction_file::read`, `plan_judge::judge` and `planner::work_out` are proved to answer and
 -- to leave, with no `requires`, and to end; `judgeAnswer`, `planAnswer` and the like what the C library's functions are. Questions.antt has the
 -- questions in document 01's order, Asked.antt what it is that a verdict `Answers` them, Places.antt the numbers that the paper lists for each
 -- entry, with their places.
@@ -12,11 +12,11 @@ use mathlib.Core.Path.{_≡_, ap}
 use lib.ListN.{length}
 use Rattle.fields.specs.Verdict.{isRefused}
 use Rattle.fields.specs.declared.Verdict.the-variants.{Refused}
-use Rattle.reading.specs.Reading.{reading}
-use Rattle.plans.specs.Plans.{planOf}
-use Rattle.rules.specs.Rules.{needMet, capacityMet, zoneMet}
-use Rattle.judging.specs.Judgement.{judgement}
-use Rattle.working_out.specs.WorkingOut.{worked, buffer}
+use Rattle.junction_file.specs.Reading.{reading}
+use Rattle.plan_file.specs.Plans.{planOf}
+use Rattle.plan_rules.specs.Rules.{needMet, capacityMet, zoneMet}
+use Rattle.plan_judge.specs.Judgement.{judgement}
+use Rattle.planner.specs.WorkingOut.{worked, buffer}
 use Rattle.givendra.specs.Answers.{judgeAnswer, planAnswer, junctionAnswer, intergreenAnswer, needAnswer, saturationAnswer, ratioAnswer}
 use Rattle.givendra.specs.LentList.{newestAnswer}
 use Rattle.givendra.specs.declared.CountRecord.{CountRecord}

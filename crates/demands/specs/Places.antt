@@ -3,7 +3,7 @@ use Prim.Native.Nat.{ℕ, _≤_, _<_}
 use mathlib.Core.List.{List}
 use lib.ListN.{length}
 use Rattle.laws.specs.Ranges.{Between}
-use Rattle.reading.specs.Reading.{reading}
+use Rattle.junction_file.specs.Reading.{reading}
 
 -- a junction file of so many bytes, with so many streams: 1 at 0, 2 to 7 at a byte of the file, 8 at its length, 9 at a stream
 pub data JunctionPlace (size streams : ℕ) : ℕ → ℕ → Type 0 where

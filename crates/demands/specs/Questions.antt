@@ -10,16 +10,18 @@ use Rattle.laws.specs.Ranges.{Between}
 use Rattle.fields.specs.Bytes.{byteAt, numberAt, fieldEnd, fits, bodyOf}
 use Rattle.fields.specs.declared.Verdict.the-variants.{Passed}
 use Rattle.junction.specs.declared.Junction.{Junction}
-use Rattle.questions.specs.Blank.{blank}
-use Rattle.questions.specs.Questions.{inOrder, lengthRight, inRange, withinLimit, refers, exists, countRefers, lacksCount, whole}
-use Rattle.reading.specs.Reading.{withField, reading}
-use Rattle.plans.specs.Plans.{cycleExpected, cycleInRange, greenExpected, greenInRange, planVerdict, planOf}
-use Rattle.plans.specs.Writing.{hasRoom}
-use Rattle.rules.specs.Rules.{needMet, capacityMet, zoneMet}
-use Rattle.planning.specs.Planning.{ratios, cycle}
+use Rattle.junction_places.specs.Blank.{blank}
+use Rattle.junction_questions.specs.Questions.{inOrder, lengthRight, inRange, withinLimit, refers, countRefers, lacksCount, whole}
+use Rattle.junction_places.specs.Places.{exists}
+use Rattle.junction_file.specs.Reading.{withField, reading}
+use Rattle.plan_file.specs.Plans.{cycleExpected, cycleInRange, greenExpected, greenInRange, planVerdict, planOf}
+use Rattle.plan_file.specs.Writing.{hasRoom}
+use Rattle.plan_rules.specs.Rules.{needMet, capacityMet, zoneMet}
+use Rattle.cycle_search.specs.Planning.{ratios, cycle}
 use Rattle.givendra.specs.LentList.{listRank}
 use Rattle.givendra.specs.declared.CountRecord.{CountRecord}
 use Rattle.demands.specs.Asked.{Question, question, each}
+use Rattle.limits.specs.Limits.{mostBytes, noCycle}
 
 -- a field of a junction file at a place, where the fields before it say j: 2 do three bytes and the body fit? 3 is the tag known and in its
 -- order? 4 is the length right? 5 is each number in range? 6 is the count of its sort within limit? 7 do the streams that it names exist?
@@ -49,7 +51,7 @@ fieldsAsked (suc fuel) s at j =
 
 -- the junction's questions: 1 (place 0) is it within 16,384 bytes? Then field by field
 unfoldable pub junctionAsked : List ℕ → List Question
-junctionAsked s = question 1 0 (leb (length s) 16384) ∷ fieldsAsked (length s) s 0 blank
+junctionAsked s = question 1 0 (leb (length s) mostBytes) ∷ fieldsAsked (length s) s 0 blank
 
 -- a field of a plan file that is due at a place: 12 (file length) has the file not ended? 11 does it fit? 12 is it the expected one?
 -- 13 are its numbers in range?
@@ -89,7 +91,7 @@ pub record FirstOf (holds : ℕ → Bool) (n k : ℕ) : Type 0 where
 -- 21 is Y below 10,000? 22 is there a cycle? 23 does the lent buffer hold the plan file?
 unfoldable pub calculationAsked : Junction → ℕ → List Question
 calculationAsked j size =
-    question 21 0 (ltb (ratios j) 10000) ∷ question 22 0 (ltb (cycle j) 181) ∷ question 23 0 (hasRoom (j .held .streams) size) ∷ []
+    question 21 0 (ltb (ratios j) 10000) ∷ question 22 0 (ltb (cycle j) noCycle) ∷ question 23 0 (hasRoom (j .held .streams) size) ∷ []
 
 -- where a plan or calculation needs a junction, the junction's questions come first
 abbrev pub judgeAsked : List ℕ → List ℕ → List Question

@@ -2,7 +2,7 @@
 -- choices of document 01; and a cycle is refused exactly if no length up to 180 s, from the annex's optimum on, lets document 01's steps give
 -- a plan that meets the rules.
 --
--- `worked` and `buffer` are what `working_out::work_out` is proved to answer and to leave in the lent buffer, `judgement` what `judging::judge`
+-- `worked` and `buffer` are what `planner::work_out` is proved to answer and to leave in the lent buffer, `judgement` what `plan_judge::judge`
 -- is proved to answer. `ratios` is Y in ten-thousandths, `firstTried` T0. Files.antt has the plan file of a length, `planBytes`, when a length
 -- is `Accepted`, and the `Result`; Figures.antt the figures, as the C library answers them.
 use Prim.Native.Nat.{ℕ, _+_, _*_, _≤_, _<_}
@@ -14,10 +14,10 @@ use lib.ListN.{length}
 use borrow.Author.Tests.{ltb-true, ltb-false, lt-ltb, le-ltb}
 use Rattle.laws.specs.Ranges.{Between}
 use Rattle.fields.specs.declared.Verdict.the-variants.{Passed, Refused}
-use Rattle.reading.specs.Reading.{reading}
-use Rattle.plans.specs.Writing.{hasRoom}
-use Rattle.planning.specs.Planning.{ratios, firstTried, cycle}
-use Rattle.working_out.specs.WorkingOut.{worked}
+use Rattle.junction_file.specs.Reading.{reading}
+use Rattle.plan_file.specs.Writing.{hasRoom}
+use Rattle.cycle_search.specs.Planning.{ratios, firstTried, cycle}
+use Rattle.planner.specs.WorkingOut.{worked}
 use Rattle.demands.specs.Figures.{FiguresExact, figures-exact}
 use Rattle.demands.specs.Files.{Accepted, Result}
 use Rattle.demands.specs.lemmas.Calculation.{ask-21, ask-22, ask-23, ask-none, cycle-some, cycle-none, verdict-is, room-there, room-lacks, answered}

@@ -1,7 +1,7 @@
 -- The customer's third demand, whole: a single claim about junction files, plan files, their zones and every number of cycles.
 --
--- `judgement` is what `judging::judge` is proved to answer, `worked` and `buffer` what `working_out::work_out` is proved to answer and to
--- leave in the lent buffer. `Acceptable` says in the customer's words what holds of an accepted plan (judging/specs/Meaning.antt), with exact
+-- `judgement` is what `plan_judge::judge` is proved to answer, `worked` and `buffer` what `planner::work_out` is proved to answer and to
+-- leave in the lent buffer. `Acceptable` says in the customer's words what holds of an accepted plan (plan_judge/specs/Meaning.antt), with exact
 -- times as numbers, roots included.
 use Prim.Native.Nat.{ℕ, _-_}
 use mathlib.Core.List.{List}
@@ -11,17 +11,17 @@ use native.Mathlib.Omega.{arith}
 use lib.ListN.{length, take}
 use Rattle.laws.specs.Ranges.{Between}
 use Rattle.fields.specs.declared.Verdict.the-variants.{Passed}
-use Rattle.questions.specs.Questions.{zoneNumbered, zone-numbered-at}
-use Rattle.reading.specs.Reading.{reading}
-use Rattle.reading.specs.Taken.{taken}
-use Rattle.plans.specs.Plans.{planVerdict, planOf}
-use Rattle.plans.specs.Writing.{planSize}
-use Rattle.judging.specs.Demand3.{demand3}
-use Rattle.judging.specs.Judgement.{judgement}
-use Rattle.judging.specs.Letter.{LeavesByLetter, letter-same}
-use Rattle.judging.specs.Meaning.{LeavesInTime, Acceptable}
-use Rattle.working_out.specs.Planned.{planned-accepted, planned-formed}
-use Rattle.working_out.specs.WorkingOut.{worked, buffer}
+use Rattle.junction_places.specs.Places.{zoneNumbered, zone-numbered-at}
+use Rattle.junction_file.specs.Reading.{reading}
+use Rattle.junction_file.specs.TakenFile.{taken}
+use Rattle.plan_file.specs.Plans.{planVerdict, planOf}
+use Rattle.plan_file.specs.Writing.{planSize}
+use Rattle.plan_judge.specs.Demand3.{demand3}
+use Rattle.plan_judge.specs.Judgement.{judgement}
+use Rattle.plan_judge.specs.Letter.{LeavesByLetter, letter-same}
+use Rattle.plan_judge.specs.Meaning.{LeavesInTime, Acceptable}
+use Rattle.planner.specs.Planned.{planned-accepted, planned-formed}
+use Rattle.planner.specs.WorkingOut.{worked, buffer}
 
 pub record ThirdDemand : Type 0 where
   -- for any junction file that is taken and any well-formed plan for it, whoever made it, the plan is accepted exactly when the three things

@@ -1,4 +1,3 @@
 pub mod Numbers
-pub mod Roots
-pub mod Squares
 pub mod Streams
+pub mod lemmas

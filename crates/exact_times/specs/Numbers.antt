@@ -9,11 +9,11 @@ use mathlib.Core.Path.{_≡_, sym, _∙_, ap, subst}
 use lib.Dec.{leb}
 use borrow.Author.Tests.{le-leb, leb-true, leb-false}
 use Rattle.laws.specs.Tests.{by-test, both-left, both-right}
-use Rattle.exact_times.specs.Squares.{minus-below}
+use Rattle.exact_times.specs.lemmas.Squares.{minus-below}
 use Rattle.times.specs.declared.Time.{Time}
 use Rattle.times.specs.declared.Time.the-variants.{Ratio, Root}
 use Rattle.times.specs.Comparison.{belowRoot, rootBelow, ratioRatio, ratioRoot, rootRatio, rootAfter, rootBefore, rootRoot, ratioWithin, rootWithin, within}
-use Rattle.exact_times.specs.Roots.{by-squares, Near, near}
+use Rattle.exact_times.specs.lemmas.Roots.{by-squares, Near, near}
 
 -- the fraction a/b is at least the time: n/d ≤ a/b; √(q/d) ≤ a/b + less, squared once
 abbrev pub AtLeast : ℕ → ℕ → Time → Type 0

@@ -1,3 +1,3 @@
 pub mod Bytes
-pub mod Numbers
 pub mod Verdict
+pub mod lemmas

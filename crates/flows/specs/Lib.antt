@@ -1,4 +1,4 @@
+pub mod Meaning
 pub mod Needs
 pub mod Saturation
-pub mod Bounds
-pub mod Meaning
+pub mod lemmas

@@ -17,7 +17,7 @@ use Rattle.streams.specs.declared.TramFigures.{TramFigures}
 use Rattle.flows.specs.Needs.{longestCycle, tramNeed, crossingSpeed, disturbance, pedestrianNeed}
 use Rattle.flows.specs.Saturation.{Row, table1, listedFrom, straightFlow, baseFlow, gradientPercent, conditionsPercent}
 use Rattle.flows.specs.Saturation.{turnDivisor, saturationFlow, flowRatio}
-use Rattle.flows.specs.Bounds.{turn-positive}
+use Rattle.flows.specs.lemmas.Bounds.{turn-positive}
 
 -- annex 2.2, Table 3: 10 s where the cycle is at most the table's, else 20 s
 module _ (cycle : ℕ) (t : TramFigures) where

@@ -9,7 +9,7 @@ ghost use Prim.Native.Nat.{_-_, _^_, min};
 ghost use Rattle.flows.specs.Needs.{needAt, tramNeed, longestCycle, pedestrianNeed, crossingSpeed, disturbance};
 ghost use Rattle.flows.specs.Saturation.{straightFlow, turningFlow, baseFlow, gradientPercent, conditionsPercent};
 ghost use Rattle.flows.specs.Saturation.{turnDivisor, saturationFlow, flowRatio};
-ghost use Rattle.flows.specs.Bounds.{Small};
+ghost use Rattle.flows.specs.lemmas.Bounds.{Bounded};
 
 // The needed green of a stream in seconds, at a cycle in seconds: 8 for cars, 10 or 20 for trams, 6 for cyclists, and for
 // pedestrians the time to cross, at least 6. More than 34 trams an hour, which no file holds, count as 34.
@@ -25,6 +25,7 @@ pub fn need(s: Stream, cycle: u16) -> u32
     }
 }
 
+// Annex 2.2, Table 3: one tram a cycle, or two.
 fn tram_need(t: TramFigures, cycle: u16) -> u32
     ensures { λ r. ⌜ r ≡ tramNeed cycle t ⌝ }
 {
@@ -82,13 +83,13 @@ fn pedestrian_need(p: PedestrianFigures) -> u32
 {
     let speed = crossing_speed(p);
     let way = p.crossing as u32 + disturbance(p) * speed;
-    let green = laws::larger(6, laws::div_up(way, speed) as u64);
+    let green = laws::u64_larger(6, laws::div_up(way, speed) as u64);
     green as u32
 }
 
 // In dm/s, formula (39): 12, or 16 where the time is 0.75 of that.
 fn crossing_speed(p: PedestrianFigures) -> u32
-    ensures { λ r. ⌜ Small (crossingSpeed p) 17 r ⌝ }
+    ensures { λ r. ⌜ Bounded (crossingSpeed p) 17 r ⌝ }
 {
     if p.crossing > 120 {
         return 16;
@@ -96,8 +97,9 @@ fn crossing_speed(p: PedestrianFigures) -> u32
     if p.hourly <= 120 { 16 } else { 12 }
 }
 
+// Formula (40), in seconds.
 fn disturbance(p: PedestrianFigures) -> u32
-    ensures { λ r. ⌜ Small (disturbance p) 4 r ⌝ }
+    ensures { λ r. ⌜ Bounded (disturbance p) 4 r ⌝ }
 {
     if p.disturbed { 3 } else { 0 }
 }
@@ -137,8 +139,9 @@ fn turning_flow(radius: u16, rows: u8) -> u32
     }
 }
 
+// Formulas (20) to (22).
 fn base_flow(c: CarFigures) -> u32
-    ensures { λ r. ⌜ Small (baseFlow c) (2 ^ 19) r ⌝ }
+    ensures { λ r. ⌜ Bounded (baseFlow c) (2 ^ 19) r ⌝ }
 {
     if c.radius == 0 {
         straight_flow(c.width)
@@ -149,14 +152,14 @@ fn base_flow(c: CarFigures) -> u32
 
 // Formula (23) in hundredths.
 fn gradient_percent(gradient: u8) -> u64
-    ensures { λ r. ⌜ Small (gradientPercent gradient) 131 r ⌝ }
+    ensures { λ r. ⌜ Bounded (gradientPercent gradient) 131 r ⌝ }
 {
     laws::above(130, 3 * gradient as u64)
 }
 
 // Table 2 in hundredths.
 fn conditions_percent(conditions: u8) -> u64
-    ensures { λ r. ⌜ Small (conditionsPercent conditions) 121 r ⌝ }
+    ensures { λ r. ⌜ Bounded (conditionsPercent conditions) 121 r ⌝ }
 {
     if conditions == 1 {
         return 120;
@@ -166,7 +169,7 @@ fn conditions_percent(conditions: u8) -> u64
 
 // 400 / Kturn of formulas (25) and (26).
 fn turn_divisor(left: u8, right: u8) -> u64
-    ensures { λ r. ⌜ Small (turnDivisor left right) (2 ^ 12) r ⌝ }
+    ensures { λ r. ⌜ Bounded (turnDivisor left right) (2 ^ 12) r ⌝ }
 {
     let left = left as u64;
     let right = right as u64;

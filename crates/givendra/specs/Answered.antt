@@ -6,16 +6,17 @@ use mathlib.Core.Bool.{Bool, true}
 use mathlib.Core.List.{List}
 use mathlib.Core.Logic.{_↔_}
 use mathlib.Core.Path.{_≡_, refl}
-use Rattle.fields.specs.Numbers.{Numbered, ask-numbered, first-numbered, numbered-more, passed-number}
+use Rattle.fields.specs.lemmas.Numbers.{Numbered, ask-numbered, first-numbered, numbered-more, passed-number}
 use Rattle.fields.specs.Verdict.{isRefused, ask, ask-passed, firstRefusal, both-passed}
 use Rattle.fields.specs.declared.Verdict.{Verdict}
 use Rattle.fields.specs.declared.Verdict.the-variants.{Passed}
-use Rattle.questions.specs.Questions.{exists, countRefers}
-use Rattle.reading.specs.Numbers.{reading-numbered}
-use Rattle.reading.specs.Reading.{reading}
-use Rattle.plans.specs.Plans.{cycleInRange}
-use Rattle.judging.specs.Judgement.{judgement}
-use Rattle.judging.specs.Numbers.{number-accepted}
+use Rattle.junction_questions.specs.Questions.{countRefers}
+use Rattle.junction_places.specs.Places.{exists}
+use Rattle.junction_file.specs.Numbers.{reading-numbered}
+use Rattle.junction_file.specs.Reading.{reading}
+use Rattle.plan_file.specs.Plans.{cycleInRange}
+use Rattle.plan_judge.specs.Judgement.{judgement}
+use Rattle.plan_judge.specs.Numbers.{number-accepted}
 use Rattle.junction_figures.specs.Figures.{pairEntry, streamNeed, streamSaturation, streamRatio}
 use Rattle.givendra.specs.Answers.{judgeAnswer, figure, intergreenVerdict, needVerdict, carVerdict, intergreenAnswer, needAnswer, saturationAnswer, ratioAnswer}
 

@@ -6,16 +6,21 @@ use Rattle.fields.specs.Verdict.{numberOf, placeOf, isRefused, ask, firstRefusa
 use Rattle.fields.specs.declared.Verdict.{Verdict}
 use Rattle.fields.specs.declared.Verdict.the-variants.{Passed}
 use Rattle.junction.specs.declared.Junction.{Junction}
-use Rattle.questions.specs.Questions.{exists, countRefers}
-use Rattle.reading.specs.Reading.{reading}
+use Rattle.junction_questions.specs.Questions.{countRefers}
+use Rattle.junction_places.specs.Places.{exists}
+use Rattle.junction_file.specs.Reading.{reading}
 use Rattle.junction_figures.specs.Figures.{pairEntry, streamNeed, streamSaturation, streamRatio}
-use Rattle.plans.specs.Plans.{cycleInRange}
-use Rattle.judging.specs.Judgement.{judgement}
-use Rattle.working_out.specs.WorkingOut.{worked}
+use Rattle.plan_file.specs.Plans.{cycleInRange}
+use Rattle.plan_judge.specs.Judgement.{judgement}
+use Rattle.planner.specs.WorkingOut.{worked}
 use Rattle.givendra.specs.declared.JudgeAnswer.{JudgeAnswer}
 use Rattle.givendra.specs.declared.PlanAnswer.{PlanAnswer}
 use Rattle.givendra.specs.declared.JunctionAnswer.{JunctionAnswer}
 use Rattle.givendra.specs.declared.Figure.{Figure}
+
+-- the release: GIVENDRA_RELEASE of include/givendra.h
+abbrev pub release : ℕ
+release = 1
 
 -- the judge's verdict
 unfoldable pub judgeAnswer : List ℕ → List ℕ → JudgeAnswer

@@ -2,9 +2,9 @@
 use Prim.Native.Nat.{ℕ}
 use mathlib.Core.List.{List}
 use mathlib.Core.Path.{_≡_}
-use Rattle.reading.specs.FileDays.{OnlyFileDays, file-days-without-effect}
-use Rattle.judging.specs.FileDays.{file-days-unjudged}
-use Rattle.working_out.specs.Demand2.{file-days-unplanned}
+use Rattle.junction_file.specs.FileDays.{OnlyFileDays, file-days-without-effect}
+use Rattle.plan_judge.specs.FileDays.{file-days-unjudged}
+use Rattle.planner.specs.Demand2.{file-days-unplanned}
 use Rattle.givendra.specs.Answers.{judgeAnswer, planAnswer, junctionAnswer, intergreenAnswer, needAnswer, saturationAnswer, ratioAnswer}
 
 -- of two junction files that differ only in file days

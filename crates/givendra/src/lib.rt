@@ -1,10 +1,10 @@
-// The library for programs in other languages (include/givendra.h): every answer is a struct of numbers. A refusal's number is 0 where
-// nothing is refused, and the other numbers are 0 where something is.
+// The library for programs in other languages (include/givendra.h): every answer but the release is a struct of numbers. A refusal's number is
+// 0 where nothing is refused, and the other numbers are 0 where something is.
 ghost use mathlib.Core.Path.{_≡_};
 ghost use Prim.Native.Nat.{max};
 ghost use lib.ListN.{length};
-ghost use Rattle.working_out.specs.WorkingOut.{buffer as bufferAfter};
-ghost use Rattle.givendra.specs.Answers.{judgeAnswer, planAnswer, junctionAnswer, figure as figureOf, intergreenVerdict, intergreenAnswer, needVerdict, needAnswer, carVerdict, saturationAnswer, ratioAnswer};
+ghost use Rattle.planner.specs.WorkingOut.{buffer as bufferAfter};
+ghost use Rattle.givendra.specs.Answers.{release, judgeAnswer, planAnswer, junctionAnswer, figure as figureOf, intergreenVerdict, intergreenAnswer, needVerdict, needAnswer, carVerdict, saturationAnswer, ratioAnswer};
 ghost use Rattle.givendra.specs.LentList.{recordRank, newestAnswer, newestFigure};
 use fields::Verdict;
 use fields::ask;
@@ -45,12 +45,20 @@ pub struct Figure {
     pub value: u32,
 }
 
+// The release, by which a caller sees that header and archive belong together.
+#[no_mangle]
+pub extern "C" fn givendra_release() -> u32
+    ensures { λ r. ⌜ r ≡ release ⌝ }
+{
+    1
+}
+
 // Judges a plan file for a junction file.
 #[no_mangle]
 pub extern "C" fn givendra_judge(junction: &[u8], plan: &[u8]) -> JudgeAnswer
     ensures { λ r. ⌜ r ≡ judgeAnswer (now (junction .entry)) (now (plan .entry)) ⌝ }
 {
-    let verdict = judging::judge(junction, plan);
+    let verdict = plan_judge::judge(junction, plan);
     match verdict {
         Verdict::Passed => JudgeAnswer {
             place: 0,
@@ -69,7 +77,7 @@ pub extern "C" fn givendra_work_out(junction: &[u8], buffer: &mut [u8]) -> PlanA
     ensures result { λ r. ⌜ r ≡ planAnswer (now (junction .entry)) (length (now (buffer .entry))) ⌝ }
     ensures lent { λ _. ⌜ now (buffer .exit) ≡ bufferAfter (now (junction .entry)) (now (buffer .entry)) ⌝ }
 {
-    let worked = working_out::work_out(junction, buffer);
+    let worked = planner::work_out(junction, buffer);
     let verdict = worked.verdict;
     match verdict {
         Verdict::Passed => PlanAnswer {
@@ -92,7 +100,7 @@ pub extern "C" fn givendra_work_out(junction: &[u8], buffer: &mut [u8]) -> PlanA
 pub extern "C" fn givendra_read_junction(junction: &[u8]) -> JunctionAnswer
     ensures { λ r. ⌜ r ≡ junctionAnswer (now (junction .entry)) ⌝ }
 {
-    let reading = reading::read(junction);
+    let reading = junction_file::read(junction);
     let j = reading.junction;
     let verdict = reading.verdict;
     match verdict {
@@ -137,7 +145,7 @@ fn figure_of(v: Verdict, value: u32) -> Figure
 pub extern "C" fn givendra_intergreen(junction: &[u8], from: usize, to: usize) -> Figure
     ensures { λ r. ⌜ r ≡ intergreenAnswer (now (junction .entry)) from to ⌝ }
 {
-    let reading = reading::read(junction);
+    let reading = junction_file::read(junction);
     let j = reading.junction;
     let verdict = reading.verdict;
     let own = intergreen_verdict(j, from, to);
@@ -150,8 +158,8 @@ pub extern "C" fn givendra_intergreen(junction: &[u8], from: usize, to: usize) -
 fn intergreen_verdict(j: Junction, from: usize, to: usize) -> Verdict
     ensures { λ r. ⌜ r ≡ intergreenVerdict j from to ⌝ }
 {
-    let second = ask(questions::exists(j, to), 7, to, Verdict::Passed);
-    ask(questions::exists(j, from), 7, from, second)
+    let second = ask(junction_places::exists(j, to), 7, to, Verdict::Passed);
+    ask(junction_places::exists(j, from), 7, from, second)
 }
 
 // The needed green of a stream at a cycle, both in seconds.
@@ -159,7 +167,7 @@ fn intergreen_verdict(j: Junction, from: usize, to: usize) -> Verdict
 pub extern "C" fn givendra_need(junction: &[u8], stream: usize, cycle: u16) -> Figure
     ensures { λ r. ⌜ r ≡ needAnswer (now (junction .entry)) stream cycle ⌝ }
 {
-    let reading = reading::read(junction);
+    let reading = junction_file::read(junction);
     let j = reading.junction;
     let verdict = reading.verdict;
     let own = need_verdict(j, stream, cycle);
@@ -172,8 +180,8 @@ pub extern "C" fn givendra_need(junction: &[u8], stream: usize, cycle: u16) -> F
 fn need_verdict(j: Junction, stream: usize, cycle: u16) -> Verdict
     ensures { λ r. ⌜ r ≡ needVerdict j stream cycle ⌝ }
 {
-    let second = ask(plans::cycle_in_range(cycle), 13, 0, Verdict::Passed);
-    ask(questions::exists(j, stream), 7, stream, second)
+    let second = ask(plan_file::cycle_in_range(cycle), 13, 0, Verdict::Passed);
+    ask(junction_places::exists(j, stream), 7, stream, second)
 }
 
 // The saturation flow of a car stream, in E/h.
@@ -181,7 +189,7 @@ fn need_verdict(j: Junction, stream: usize, cycle: u16) -> Verdict
 pub extern "C" fn givendra_saturation_flow(junction: &[u8], stream: usize) -> Figure
     ensures { λ r. ⌜ r ≡ saturationAnswer (now (junction .entry)) stream ⌝ }
 {
-    let reading = reading::read(junction);
+    let reading = junction_file::read(junction);
     let j = reading.junction;
     let verdict = reading.verdict;
     let own = car_verdict(j, stream);
@@ -196,7 +204,7 @@ pub extern "C" fn givendra_saturation_flow(junction: &[u8], stream: usize) -> Fi
 pub extern "C" fn givendra_flow_ratio(junction: &[u8], stream: usize) -> Figure
     ensures { λ r. ⌜ r ≡ ratioAnswer (now (junction .entry)) stream ⌝ }
 {
-    let reading = reading::read(junction);
+    let reading = junction_file::read(junction);
     let j = reading.junction;
     let verdict = reading.verdict;
     let own = car_verdict(j, stream);
@@ -210,7 +218,7 @@ fn car_verdict(j: Junction, stream: usize) -> Verdict
     ensures { λ r. ⌜ r ≡ carVerdict j stream ⌝ }
 {
     ask(
-        questions::count_refers(j, stream),
+        junction_questions::count_refers(j, stream),
         7,
         stream,
         Verdict::Passed,

@@ -4,12 +4,11 @@ use fields::Verdict;
 use junction::Junction;
 use libc::STDIN_FILENO;
 use libc::STDOUT_FILENO;
+use limits::MOST_SECONDS;
+use limits::MOST_STREAMS;
 use streams::Kind;
 use streams::Stream;
 use streams::TramFigures;
-
-// The longest cycle in s.
-const LONGEST: u16 = 180;
 
 fn main() {
     // One byte more than a file may have, so that a longer one is refused by the library.
@@ -32,7 +31,7 @@ fn at_end(size: usize) -> bool {
 }
 
 fn answer(file: &[u8]) {
-    let reading = reading::read(file);
+    let reading = junction_file::read(file);
     let verdict = reading.verdict;
     match verdict {
         Verdict::Passed => {
@@ -86,7 +85,7 @@ fn matrix(j: Junction) {
 
 fn heading(j: Junction) {
     let n = j.held.streams;
-    for i in 0..16 {
+    for i in 0..MOST_STREAMS {
         if i < n {
             column(i as u64 + 1);
         }
@@ -95,7 +94,7 @@ fn heading(j: Junction) {
 
 fn rows(j: Junction) {
     let n = j.held.streams;
-    for i in 0..16 {
+    for i in 0..MOST_STREAMS {
         if i < n {
             row(j, i + 1);
         }
@@ -110,7 +109,7 @@ fn row(j: Junction, from: usize) {
 
 fn cells(j: Junction, from: usize) {
     let n = j.held.streams;
-    for i in 0..16 {
+    for i in 0..MOST_STREAMS {
         if i < n {
             cell(j, from, i + 1);
         }
@@ -132,7 +131,7 @@ fn table(j: Junction) {
 
 fn lines(j: Junction) {
     let n = j.held.streams;
-    for i in 0..16 {
+    for i in 0..MOST_STREAMS {
         if i < n {
             line(j, i + 1);
         }
@@ -140,7 +139,7 @@ fn lines(j: Junction) {
 }
 
 fn line(j: Junction, n: usize) {
-    let s = questions::stream_numbered(j, n);
+    let s = junction_places::stream_numbered(j, n);
     column(n as u64);
     put(b"  phase ");
     io::print_decimal(STDOUT_FILENO, s.phase as u64);
@@ -155,11 +154,11 @@ fn kind(j: Junction, n: usize, s: Stream) {
         Kind::Tram(t) => tram(j, n, t),
         Kind::Pedestrian(_) => {
             put(b"  pedestrian  needs ");
-            need(j, n, LONGEST);
+            need(j, n, MOST_SECONDS);
         }
         Kind::Cyclist(_) => {
             put(b"  cyclist     needs ");
-            need(j, n, LONGEST);
+            need(j, n, MOST_SECONDS);
         }
     }
 }
@@ -174,7 +173,7 @@ fn need(j: Junction, n: usize, cycle: u16) {
 
 fn car(j: Junction, n: usize) {
     put(b"  car         needs ");
-    need(j, n, LONGEST);
+    need(j, n, MOST_SECONDS);
     put(b"   flow ");
     io::print_decimal(STDOUT_FILENO, junction_figures::stream_flow(j, n) as u64);
     put(b" E/h counted on day ");
@@ -196,5 +195,5 @@ fn tram(j: Junction, n: usize, t: TramFigures) {
     put(b" up to a cycle of ");
     io::print_decimal(STDOUT_FILENO, cycle as u64);
     put(b" s, then ");
-    need(j, n, LONGEST);
+    need(j, n, MOST_SECONDS);
 }

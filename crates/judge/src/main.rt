@@ -18,7 +18,7 @@ fn main() {
         return;
     }
     // One byte more than a junction file may have, and as many of a plan file as can matter: the bytes after these change no answer
-    // (judging/specs/Long.antt).
+    // (plan_judge/specs/Long.antt).
     let mut junction = [0; 16385];
     let mut plan = [0; 65672];
     judge_files(&mut junction, &mut plan);
@@ -36,7 +36,7 @@ fn judge_files(junction: &mut [u8], plan: &mut [u8]) {
     }
     let m = first.size;
     let n = second.size;
-    answer(judging::judge(&junction[0..m], &plan[0..n]));
+    answer(plan_judge::judge(&junction[0..m], &plan[0..n]));
 }
 
 // Reads the file that the argument names, as far as the buffer goes.

@@ -5,23 +5,13 @@ use mathlib.Core.Bool.{Bool, true, false, _&&_, _||_, cond}
 use mathlib.Core.List.{List}
 use lib.Dec.{leb, eqb}
 use lib.ListN.{length}
-use Rattle.counts.specs.Newest.{leastFlow, greatestFlow}
+use Rattle.limits.specs.Limits.{leastFlow, greatestFlow}
 use Rattle.fields.specs.Bytes.{byteAt, numberAt, byteIn, numberIn}
 use Rattle.streams.specs.declared.Kind.{Kind}
 use Rattle.streams.specs.declared.Kind.the-variants.{Car, Tram, Pedestrian, Cyclist}
 use Rattle.streams.specs.declared.Stream.{Stream}
 use Rattle.junction.specs.declared.Zone.{Zone}
 use Rattle.junction.specs.declared.Count.{Count}
-
--- at most 16 streams, 64 zones, 128 counts
-abbrev pub mostStreams : ℕ
-mostStreams = 16
-
-abbrev pub mostZones : ℕ
-mostZones = 64
-
-abbrev pub mostCounts : ℕ
-mostCounts = 128
 
 -- how long the bodies of 01, 03 and 04 are; a stream's length goes by its kind
 abbrev pub headingLength : ℕ

@@ -5,6 +5,11 @@ use fields::byte;
 use fields::byte_in;
 use fields::number;
 use fields::number_in;
+use limits::GREATEST_FLOW;
+use limits::LEAST_FLOW;
+use limits::MOST_COUNTS;
+use limits::MOST_STREAMS;
+use limits::MOST_ZONES;
 use streams::CarFigures;
 use streams::CyclistFigures;
 use streams::Kind;
@@ -44,9 +49,9 @@ pub struct Junction {
     // The design day.
     pub day: u16,
     pub held: Held,
-    pub streams: [Stream; 16],
-    pub zones: [Zone; 64],
-    pub counts: [Count; 128],
+    pub streams: [Stream; MOST_STREAMS],
+    pub zones: [Zone; MOST_ZONES],
+    pub counts: [Count; MOST_COUNTS],
 }
 
 // The answer to a junction file: what the questions give, and the junction, to be used only where nothing is refused.
@@ -260,7 +265,7 @@ pub fn zone_of(b: &[u8]) -> Zone
 pub fn count_in_range(b: &[u8]) -> bool
     ensures { λ r. ⌜ r ≡ countInRange (now (b .entry)) ⌝ }
 {
-    number_in(b, 5, 1, 9999)
+    number_in(b, 5, LEAST_FLOW, GREATEST_FLOW)
 }
 
 // The count of a body; its file day is not kept.

@@ -19,16 +19,21 @@ use Rattle.streams.specs.declared.Stream.{Stream}
 use Rattle.junction.specs.declared.Count.{Count}
 use Rattle.junction.specs.declared.Junction.{Junction}
 use Rattle.junction.specs.Layout.{streamOf, countOf, countInRange}
-use Rattle.questions.specs.Blank.{blank}
-use Rattle.questions.specs.Passed.{BodyPassed}
-use Rattle.questions.specs.Questions.{streamAt, countAt, isCar, inOrder, lengthRight, inRange, withinLimit, refers, bodyVerdict, fieldVerdict, phaseUsed, phaseFollows, phasesRight, carAt, firstCar, newestRank, lacksCount, firstLacking, countsVerdict, whole, wholeVerdict}
-use Rattle.reading.specs.Chosen.{UsableCount, chosen, none-usable}
-use Rattle.reading.specs.Reading.{withHeading, withStream, withZone, withCount, withField, reading}
-use Rattle.reading.specs.Taken.{UsedPhase, taken, used-phase}
-use Rattle.junction_description.specs.Described.{Part, Some, part-stream, part-zone, part-count, part-heading, parts}
+use Rattle.junction_places.specs.Blank.{blank}
+use Rattle.junction_questions.specs.lemmas.Passed.{BodyPassed}
+use Rattle.junction_questions.specs.Questions.{inOrder, lengthRight, inRange, withinLimit, refers, bodyVerdict, fieldVerdict, phaseUsed, phaseFollows, phasesRight, carAt, firstCar, lacksCount, firstLacking, countsVerdict, whole, wholeVerdict}
+use Rattle.junction_places.specs.Places.{streamAt, countAt}
+use Rattle.streams.specs.Kinds.{isCar}
+use Rattle.junction_places.specs.Ranks.{newestRank}
+use Rattle.junction_file.specs.Chosen.{UsableCount, chosen, none-usable}
+use Rattle.junction_file.specs.Reading.{withHeading, withStream, withZone, withCount, withField, reading}
+use Rattle.junction_file.specs.Taken.{UsedPhase}
+use Rattle.junction_file.specs.TakenFile.{taken}
+use Rattle.junction_file.specs.lemmas.Fields.{used-phase}
+use Rattle.junction_description.specs.lemmas.Described.{Part, Some, part-stream, part-zone, part-count, part-heading, parts}
 use Rattle.junction_description.specs.File.{place, tag, body, ZoneField, CountField, UsableFor, JunctionFile}
-use Rattle.junction_description.specs.Holds.{Holds, kind-car, zone-refers, count-refers}
-use Rattle.junction_description.specs.Steps.{Passes, begin, next, taken-read, read-taken}
+use Rattle.junction_description.specs.lemmas.Holds.{Holds, kind-car, zone-refers, count-refers}
+use Rattle.junction_description.specs.lemmas.Steps.{Passes, begin, next, taken-read, read-taken}
 
 -- what a junction says of its streams and counts, by bytes; streams from 1 on, places from 0 on
 module _ (s : List ℕ) (j : Junction) (streams zones counts : ℕ) (r : Holds s j streams zones counts) where

@@ -7,7 +7,8 @@ use mathlib.Core.Path.{_≡_}
 use lib.ListN.{length}
 use Rattle.laws.specs.Ranges.{Between}
 use Rattle.fields.specs.Bytes.{byteAt, numberAt, fits, fieldEnd, bodyOf}
-use Rattle.junction.specs.Layout.{mostStreams, mostZones, mostCounts, headingLength, zoneLength, countLength, designDay, streamLengthRight, streamInRange, zoneInRange, countInRange}
+use Rattle.junction.specs.Layout.{headingLength, zoneLength, countLength, designDay, streamLengthRight, streamInRange, zoneInRange, countInRange}
+use Rattle.limits.specs.Limits.{mostStreams, mostZones, mostCounts, mostBytes}
 
 -- where a field begins, by its number: the heading has number 0
 unfoldable pub place : List ℕ → ℕ → ℕ
@@ -63,7 +64,7 @@ pub record FlowOf (s : List ℕ) (n first counts flow : ℕ) : Type 0 where
 -- a file with so many streams, zones and counts
 pub record JunctionFile (s : List ℕ) (streams zones counts : ℕ) : Type 0 where
   -- at most 16,384 bytes, 16 streams, 64 zones, 128 counts
-  pub size : length s ≤ 16384
+  pub size : length s ≤ mostBytes
   pub fewStreams : streams ≤ mostStreams
   pub fewZones : zones ≤ mostZones
   pub fewCounts : counts ≤ mostCounts

@@ -8,14 +8,15 @@ use mathlib.Core.Path.{_≡_, sym, _∙_}
 use Rattle.laws.specs.Ranges.{Between}
 use Rattle.fields.specs.declared.Verdict.the-variants.{Passed}
 use Rattle.counts.specs.Newest.{rankFlow}
-use Rattle.questions.specs.Questions.{countRefers, newestRank}
-use Rattle.reading.specs.Chosen.{UsableCount, chosen}
-use Rattle.reading.specs.Reading.{reading}
-use Rattle.reading.specs.Taken.{taken}
-use Rattle.junction_description.specs.Described.{Part}
+use Rattle.junction_questions.specs.Questions.{countRefers}
+use Rattle.junction_places.specs.Ranks.{newestRank}
+use Rattle.junction_file.specs.Chosen.{UsableCount, chosen}
+use Rattle.junction_file.specs.Reading.{reading}
+use Rattle.junction_file.specs.TakenFile.{taken}
+use Rattle.junction_description.specs.lemmas.Described.{Part}
 use Rattle.junction_description.specs.Exactly.{car-at, count-day, count-flow, usable-there, there-usable, taken-part}
 use Rattle.junction_description.specs.File.{UsableFor, FlowOf}
-use Rattle.junction_description.specs.Holds.{count-refers}
+use Rattle.junction_description.specs.lemmas.Holds.{count-refers}
 
 module _ (s : List ℕ) (v : reading s .verdict ≡ Passed) (m : ℕ) (car : countRefers (reading s .junction) m ≡ true) where
   flow-of : (n z c : ℕ) → Part s (reading s .junction) n z c → FlowOf s m (n + z) c (rankFlow (newestRank (reading s .junction) m))

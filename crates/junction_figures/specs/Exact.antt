@@ -18,8 +18,8 @@ use Rattle.times.specs.Times.{leaving, reaching}
 use Rattle.junction.specs.declared.Junction.{Junction}
 use Rattle.junction.specs.declared.Side.{Side}
 use Rattle.junction.specs.declared.Zone.{Zone}
-use Rattle.questions.specs.Questions.{streamAt, streamNumbered, numbered-at, zoneAt}
-use Rattle.reading.specs.Taken.{KindRanges, SideRight, ZoneRight, Taken}
+use Rattle.junction_places.specs.Places.{streamAt, streamNumbered, numbered-at, zoneAt}
+use Rattle.junction_file.specs.Taken.{KindRanges, SideRight, ZoneRight, Taken}
 use Rattle.junction_figures.specs.Figures.{forward, backward, zoneEntry, pairEntry, pair-least}
 
 -- from one side of a zone to the other, that gap is enough
@@ -53,22 +53,22 @@ module _ (j : Junction) (t : Taken j) where
       ↔ ((forward n m z ≡ true → Clears j (z .a) (z .b) gap) × (backward n m z ≡ true → Clears j (z .b) (z .a) gap))
   unfolding zoneEntry forward backward
   zone-exact n m gap z r =
-      let ahead = side-clears (z .a) (z .b) (r .a) gap in
-      let behind = side-clears (z .b) (z .a) (r .b) gap in
+      let onward = side-clears (z .a) (z .b) (r .a) gap in
+      let back = side-clears (z .b) (z .a) (r .b) gap in
       by-test (eqb (z .a .stream) n && eqb (z .b .stream) m)
       (λ f.
       let n-is : z .a .stream ≡ n = eqb-true _ _ (both-left (eqb (z .a .stream) n) _ f) in
       let m-is : z .b .stream ≡ m = eqb-true _ _ (both-right (eqb (z .a .stream) n) _ f) in
       rw (f, ← n-is, ← m-is) (
-        λ h. (λ e. ahead .0 h, λ e. absurd (omega (arith, eqb-true (z .b .stream) (z .a .stream) (both-left _ _ e), r .below))),
-        λ both. ahead .1 (both .0 refl),
+        λ h. (λ e. onward .0 h, λ e. absurd (omega (arith, eqb-true (z .b .stream) (z .a .stream) (both-left _ _ e), r .below))),
+        λ both. onward .1 (both .0 refl),
       ))
       (λ f.
       by-test (eqb (z .b .stream) n && eqb (z .a .stream) m)
       (λ g.
       let n-is : z .b .stream ≡ n = eqb-true _ _ (both-left (eqb (z .b .stream) n) _ g) in
       let m-is : z .a .stream ≡ m = eqb-true _ _ (both-right (eqb (z .b .stream) n) _ g) in
-      rw (f, g, ← n-is, ← m-is) (λ h. (λ e. absurd (false≢true e), λ e. behind .0 h), λ both. behind .1 (both .1 refl)))
+      rw (f, g, ← n-is, ← m-is) (λ h. (λ e. absurd (false≢true e), λ e. back .0 h), λ both. back .1 (both .1 refl)))
       (λ g. rw (f, g) (λ h. (λ e. absurd (false≢true e), λ e. absurd (false≢true e)), λ both. zero-le)))
 
 -- a gap is at least the entry from stream n to stream m exactly where it is enough at each of their zones, whichever of the two is the

@@ -14,7 +14,8 @@ use Rattle.flows.specs.Saturation.{saturationFlow, flowRatio}
 use Rattle.junction.specs.declared.Junction.{Junction}
 use Rattle.junction.specs.declared.Zone.{Zone}
 use Rattle.counts.specs.Newest.{rankDay, rankFlow}
-use Rattle.questions.specs.Questions.{streamNumbered, zoneAt, newestRank}
+use Rattle.junction_places.specs.Places.{streamNumbered, zoneAt}
+use Rattle.junction_places.specs.Ranks.{newestRank}
 
 -- a zone of streams n and m, with n as its stream a, or as its stream b
 unfoldable pub forward : ℕ → ℕ → Zone → Bool

@@ -13,8 +13,8 @@ use Rattle.streams.specs.declared.Kind.the-variants.{Car}
 use Rattle.flows.specs.Meaning.{numerator, saturation-greatest, ratio-least}
 use Rattle.flows.specs.Saturation.{table1, listedFrom, straightFlow, turningFlow, baseFlow, gradientPercent, conditionsPercent, turnDivisor, saturationFlow}
 use Rattle.junction.specs.declared.Junction.{Junction}
-use Rattle.questions.specs.Questions.{streamAt, numbered-at}
-use Rattle.reading.specs.Taken.{CarRanges, KindRanges, Taken}
+use Rattle.junction_places.specs.Places.{streamAt, numbered-at}
+use Rattle.junction_file.specs.Taken.{CarRanges, KindRanges, Taken}
 use Rattle.junction_figures.specs.Figures.{streamFlow, streamSaturation, streamRatio}
 
 straight-some : (w : ℕ) → Between 300 1500 w → 1000 ≤ straightFlow w

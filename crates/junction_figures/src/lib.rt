@@ -4,6 +4,8 @@ ghost use Prim.Native.Nat.{max};
 ghost use Rattle.junction_figures.specs.Figures.{forward as forwardAt, backward as backwardAt, entryAt, pairEntry, sharesAt, firstShared, sharesZone, streamNeed, streamFlow, streamDay, kindSaturation, streamSaturation, streamRatio};
 use junction::Junction;
 use junction::Zone;
+use laws::u16_larger;
+use limits::MOST_ZONES;
 use streams::Kind;
 use streams::Stream;
 
@@ -12,27 +14,20 @@ pub fn pair_entry(j: Junction, n: usize, m: usize) -> u16
     ensures { λ r. ⌜ r ≡ pairEntry j n m ⌝ }
 {
     let zones = j.held.zones;
-    let from = questions::stream_numbered(j, n);
-    let to = questions::stream_numbered(j, m);
+    let from = junction_places::stream_numbered(j, n);
+    let to = junction_places::stream_numbered(j, m);
     let mut most: u16 = 0;
     let mut i: usize = 0;
     while i < zones {
-        let z = if i < 64 {
+        let z = if i < MOST_ZONES {
             j.zones[i]
         } else {
-            questions::no_zone()
+            junction_places::no_zone()
         };
-        most = larger(most, zone_entry(n, m, from, to, z));
+        most = u16_larger(most, zone_entry(n, m, from, to, z));
         i += 1;
     }
     most
-}
-
-// The larger of two entries.
-pub fn larger(a: u16, b: u16) -> u16
-    ensures { λ r. ⌜ r ≡ max a b ⌝ }
-{
-    if a <= b { b } else { a }
 }
 
 // The entry at one zone, with n and m the numbers of the two streams; 0 at a zone of other streams.
@@ -84,7 +79,7 @@ fn first_shared(j: Junction, n: usize, m: usize) -> usize
 fn shares_at(j: Junction, n: usize, m: usize, i: usize) -> bool
     ensures { λ r. ⌜ r ≡ sharesAt j n m i ⌝ }
 {
-    let z = questions::zone_at(j, i);
+    let z = junction_places::zone_at(j, i);
     forward(n, m, z) | backward(n, m, z)
 }
 
@@ -92,28 +87,28 @@ fn shares_at(j: Junction, n: usize, m: usize, i: usize) -> bool
 pub fn stream_need(j: Junction, n: usize, cycle: u16) -> u32
     ensures { λ r. ⌜ r ≡ streamNeed j n cycle ⌝ }
 {
-    flows::need(questions::stream_numbered(j, n), cycle)
+    flows::need(junction_places::stream_numbered(j, n), cycle)
 }
 
 // The flow of car stream n in E/h: the count with the greatest count day not after the design day, of equals the larger; 0 without one.
 pub fn stream_flow(j: Junction, n: usize) -> u16
     ensures { λ r. ⌜ r ≡ streamFlow j n ⌝ }
 {
-    counts::flow(questions::newest_rank(j, n))
+    counts::flow(junction_places::newest_rank(j, n))
 }
 
 // The day of the count that gives car stream n its flow, 0 without one.
 pub fn stream_day(j: Junction, n: usize) -> u16
     ensures { λ r. ⌜ r ≡ streamDay j n ⌝ }
 {
-    counts::day(questions::newest_rank(j, n))
+    counts::day(junction_places::newest_rank(j, n))
 }
 
 // The saturation flow of car stream n in E/h, 0 for another kind.
 pub fn stream_saturation(j: Junction, n: usize) -> u32
     ensures { λ r. ⌜ r ≡ streamSaturation j n ⌝ }
 {
-    saturation(questions::stream_numbered(j, n))
+    saturation(junction_places::stream_numbered(j, n))
 }
 
 // That of a stream.

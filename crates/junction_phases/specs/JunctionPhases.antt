@@ -8,27 +8,28 @@ use Rattle.laws.specs.Largest.{largestOf}
 use Rattle.streams.specs.declared.Kind.{Kind}
 use Rattle.streams.specs.declared.Kind.the-variants.{Car, Tram, Pedestrian, Cyclist}
 use Rattle.junction.specs.declared.Junction.{Junction}
-use Rattle.questions.specs.Questions.{streamNumbered, zoneNumbered, isCar}
+use Rattle.junction_places.specs.Places.{streamNumbered}
+use Rattle.streams.specs.Kinds.{isCar}
 use Rattle.junction_figures.specs.Figures.{pairEntry, streamNeed, streamRatio}
 use Rattle.phase_lengths.specs.Phases.{noPhase}
 use Rattle.phase_lengths.specs.declared.Phases.{Phases}
 use Rattle.phase_lengths.specs.declared.Phase.{Phase}
+use Rattle.limits.specs.Limits.{mostPhases}
 
--- a figure of each stream whose largest is sought: the number of its phase; 1 for a pedestrian or a tram; of the cars of a phase, 1 for each,
--- or their flow ratio; of the streams of a phase, the needed green at a cycle
-pub data Sought : Type 0 where
-  Number : Sought
-  Slow : Sought
-  Cars : ℕ → Sought
-  Ratio : ℕ → Sought
-  Need : ℕ → ℕ → Sought
+-- the largest figure of the junction's streams
+abbrev pub largestStream : Junction → (ℕ → ℕ) → ℕ
+largestStream j figure = largestOf (λ i. figure (i + 1)) (j .held .streams)
+
+-- some stream passes a test
+abbrev pub someStream : Junction → (ℕ → Bool) → Bool
+someStream j test = leb 1 (largestStream j (λ n. cond (test n) 1 0))
 
 -- pedestrians and trams
-abbrev pub isSlow : Kind → Bool
-isSlow (Car c) = false
-isSlow (Tram t) = true
-isSlow (Pedestrian p) = true
-isSlow (Cyclist y) = false
+abbrev pub isPedestrianOrTram : Kind → Bool
+isPedestrianOrTram (Car c) = false
+isPedestrianOrTram (Tram t) = true
+isPedestrianOrTram (Pedestrian p) = true
+isPedestrianOrTram (Cyclist y) = false
 
 -- stream n is in phase f; it is a car there
 unfoldable pub isIn : Junction → ℕ → ℕ → Bool
@@ -37,24 +38,25 @@ isIn j f n = eqb (streamNumbered j n .phase) f
 unfoldable pub carIn : Junction → ℕ → ℕ → Bool
 carIn j f n = isIn j f n && isCar (streamNumbered j n .kind)
 
--- a figure of stream n, and the largest of the junction's streams
-unfoldable pub figure : Junction → Sought → ℕ → ℕ
-figure j Number n = streamNumbered j n .phase
-figure j Slow n = cond (isSlow (streamNumbered j n .kind)) 1 0
-figure j (Cars f) n = cond (carIn j f n) 1 0
-figure j (Ratio f) n = cond (carIn j f n) (streamRatio j n) 0
-figure j (Need f cycle) n = cond (isIn j f n) (streamNeed j n cycle) 0
+-- a phase has cars where some stream of it is one
+unfoldable pub hasCars : Junction → ℕ → Bool
+hasCars j f = someStream j (carIn j f)
 
-unfoldable pub largest : Junction → Sought → ℕ
-largest j what = largestOf (λ i. figure j what (i + 1)) (j .held .streams)
+-- y of a phase is the largest of its cars'
+unfoldable pub phaseRatio : Junction → ℕ → ℕ
+phaseRatio j f = largestStream j (λ n. cond (carIn j f n) (streamRatio j n) 0)
+
+-- the need of a phase is the largest of its streams' at a cycle
+unfoldable pub phaseNeed : Junction → ℕ → ℕ → ℕ
+phaseNeed j f cycle = largestStream j (λ n. cond (isIn j f n) (streamNeed j n cycle) 0)
 
 -- phases 1 to the last; no file has more than six
 unfoldable pub phaseCount : Junction → ℕ
-phaseCount j = min (largest j Number) 6
+phaseCount j = min (largestStream j (λ n. streamNumbered j n .phase)) mostPhases
 
 -- with pedestrians or trams
-unfoldable pub slow : Junction → Bool
-slow j = leb 1 (largest j Slow)
+unfoldable pub hasPedestrianOrTram : Junction → Bool
+hasPedestrianOrTram j = someStream j (λ n. isPedestrianOrTram (streamNumbered j n .kind))
 
 -- the first of so many follows the last
 abbrev pub phaseAfter : ℕ → ℕ → ℕ
@@ -63,35 +65,30 @@ phaseAfter count f = cond (ltb f count) (f + 1) 1
 unfoldable pub nextPhase : Junction → ℕ → ℕ
 nextPhase j f = phaseAfter (phaseCount j) f
 
--- M of a phase: the largest entry from its streams to those of the next, at least 1 (house). A pair without a zone has entry 0, so
--- only the zones' pairs count
+-- the entry from stream n to stream m, where they are of phases f and g
 unfoldable pub entryBetween : Junction → ℕ → ℕ → ℕ → ℕ → ℕ
 entryBetween j f g n m = cond (isIn j f n && isIn j g m) (pairEntry j n m) 0
 
-unfoldable pub zoneFigure : Junction → ℕ → ℕ → ℕ → ℕ
-zoneFigure j f g zone =
-    let a = zoneNumbered j zone .a .stream in
-    let b = zoneNumbered j zone .b .stream in
-    max (entryBetween j f g a b) (entryBetween j f g b a)
-
+-- the largest entry from the streams of a phase to those of another
 unfoldable pub phaseEntry : Junction → ℕ → ℕ → ℕ
-phaseEntry j f g = largestOf (λ i. zoneFigure j f g (i + 1)) (j .held .zones)
+phaseEntry j f g = largestStream j (λ n. largestStream j (λ m. entryBetween j f g n m))
 
+-- M of a phase: that to the streams of the next, at least 1 (house)
 unfoldable pub intergreen : Junction → ℕ → ℕ
 intergreen j f = max 1 (phaseEntry j f (nextPhase j f))
 
--- the phase at a place, from 0: its y is the largest of its cars', its need the largest of its streams' at a cycle
+-- the phase at a place, from 0, at a cycle
 unfoldable pub phaseAt : Junction → ℕ → ℕ → Phase
 phaseAt j t i =
     record {
-      cars = leb 1 (largest j (Cars (i + 1)));
-      ratio = largest j (Ratio (i + 1));
+      cars = hasCars j (i + 1);
+      ratio = phaseRatio j (i + 1);
       intergreen = intergreen j (i + 1);
-      need = largest j (Need (i + 1) t);
+      need = phaseNeed j (i + 1) t;
     }
 
 unfoldable pub phasesAt : Junction → ℕ → Phases
-phasesAt j t = record { count = phaseCount j; of = filled (phaseAt j t) (replicate 6 noPhase) (phaseCount j) }
+phasesAt j t = record { count = phaseCount j; of = filled (phaseAt j t) (replicate mostPhases noPhase) (phaseCount j) }
 
 -- a phase with another need
 abbrev pub withNeed : Phase → ℕ → Phase

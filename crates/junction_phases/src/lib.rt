@@ -5,20 +5,23 @@ ghost use mathlib.Core.Path.{_≡_};
 ghost use Prim.Native.Nat.{_≤_, max, min};
 ghost use lib.ListN.{getD};
 ghost use Rattle.laws.specs.Largest.{largestOf};
-ghost use Rattle.questions.specs.Blank.{noStream};
-ghost use Rattle.reading.specs.Taken.{Taken};
-ghost use Rattle.tables.specs.Tables.{conflictsOf, loadsOf};
-ghost use Rattle.junction_phases.specs.ByPhase.{ByPhase};
-ghost use Rattle.junction_phases.specs.JunctionPhases.{isSlow, slow as slowIn, phaseAfter, phasesAt, withNeed};
-ghost use Rattle.junction_phases.specs.Made.{phaseWith};
-ghost use Rattle.junction_phases.specs.Tabled.{needsBy, ratiosBy, entriesBy, onward as onwardBy, StreamPhases, ZonesPhases};
+ghost use Rattle.junction_places.specs.Blank.{noStream};
+ghost use Rattle.junction_file.specs.Taken.{Taken};
+ghost use Rattle.junction_tables.specs.Tables.{conflictsOf, loadsOf};
+ghost use Rattle.junction_phases.specs.lemmas.ByPhase.{ByPhase};
+ghost use Rattle.junction_phases.specs.JunctionPhases.{isPedestrianOrTram, hasPedestrianOrTram, phaseAfter, phasesAt, withNeed};
+ghost use Rattle.junction_phases.specs.lemmas.Made.{phaseWith};
+ghost use Rattle.junction_phases.specs.lemmas.Tabled.{needsBy, ratiosBy, entriesBy, onward as onwardBy, StreamPhases, ZonesPhases};
 use junction::Junction;
+use junction_tables::Conflicts;
+use junction_tables::Loads;
+use laws::u32_larger;
+use limits::MOST_PHASES;
+use limits::MOST_STREAMS;
 use phase_lengths::Phase;
 use phase_lengths::Phases;
 use streams::Kind;
 use streams::Stream;
-use tables::Conflicts;
-use tables::Loads;
 
 // A number where a test passes, else 0.
 fn only(test: bool, n: u32) -> u32
@@ -27,14 +30,8 @@ fn only(test: bool, n: u32) -> u32
     if test { n } else { 0 }
 }
 
-fn larger(a: u32, b: u32) -> u32
-    ensures { λ r. ⌜ r ≡ max a b ⌝ }
-{
-    if a <= b { b } else { a }
-}
-
-fn is_slow(s: Stream) -> bool
-    ensures { λ r. ⌜ r ≡ isSlow (s .kind) ⌝ }
+fn is_pedestrian_or_tram(s: Stream) -> bool
+    ensures { λ r. ⌜ r ≡ isPedestrianOrTram (s .kind) ⌝ }
 {
     let kind = s.kind;
     match kind {
@@ -46,23 +43,23 @@ fn is_slow(s: Stream) -> bool
 }
 
 // Whether the junction has a pedestrian or a tram, so that (33) gives its first length.
-pub fn slow(j: Junction) -> bool
+pub fn has_pedestrian_or_tram(j: Junction) -> bool
     requires { ⌜ Taken j ⌝ }
-    ensures { λ r. ⌜ r ≡ slowIn j ⌝ }
+    ensures { λ r. ⌜ r ≡ hasPedestrianOrTram j ⌝ }
 {
     let n = j.held.streams;
     let mut most: u32 = 0;
     let mut i: usize = 0;
     while i < n {
         let s = j.streams[i];
-        most = larger(most, only(is_slow(s), 1));
+        most = u32_larger(most, only(is_pedestrian_or_tram(s), 1));
         i += 1;
     }
     1 <= most
 }
 
 // The number of phases: that of the last one, at most six.
-fn phase_count(streams: [Stream; 16], n: usize) -> usize
+fn phase_count(streams: [Stream; MOST_STREAMS], n: usize) -> usize
     requires { ⌜ n ≤ 16 ⌝ }
     ensures { λ r. ⌜ r ≡ min (largestOf (λ i. getD streams i noStream .phase) n) 6 ⌝ }
     ensures few { λ r. ⌜ r ≤ 6 ⌝ }
@@ -71,7 +68,7 @@ fn phase_count(streams: [Stream; 16], n: usize) -> usize
     let mut i: usize = 0;
     while i < n {
         let s = streams[i];
-        last = larger(last, s.phase as u32);
+        last = u32_larger(last, s.phase as u32);
         i += 1;
     }
     at_most_six(last)
@@ -96,32 +93,32 @@ fn following(f: u8, count: usize) -> u8
 }
 
 // The largest flow ratio of each phase's cars, by one pass over the streams.
-fn ratios_of(streams: [Stream; 16], loads: Loads, n: usize) -> [u32; 6]
+fn ratios_of(streams: [Stream; MOST_STREAMS], loads: Loads, n: usize) -> [u32; MOST_PHASES]
     requires { ⌜ StreamPhases streams n ⌝ }
     ensures { λ r. ⌜ ByPhase (ratiosBy streams loads n) r ⌝ }
 {
-    let mut ratios: [u32; 6] = [0; 6];
+    let mut ratios: [u32; MOST_PHASES] = [0; MOST_PHASES];
     let mut i: usize = 0;
     while i < n {
         let s = streams[i];
         let f = s.phase as usize - 1;
-        ratios[f] = larger(ratios[f], only(questions::is_car(s), loads.of[i].ratio));
+        ratios[f] = u32_larger(ratios[f], only(streams::is_car(s), loads.of[i].ratio));
         i += 1;
     }
     ratios
 }
 
 // The largest needed green of each phase's streams at a cycle, by one pass over the streams.
-fn needs_at(streams: [Stream; 16], n: usize, t: u16) -> [u32; 6]
+fn needs_at(streams: [Stream; MOST_STREAMS], n: usize, t: u16) -> [u32; MOST_PHASES]
     requires { ⌜ StreamPhases streams n ⌝ }
     ensures { λ r. ⌜ ByPhase (needsBy streams t n) r ⌝ }
 {
-    let mut needs: [u32; 6] = [0; 6];
+    let mut needs: [u32; MOST_PHASES] = [0; MOST_PHASES];
     let mut i: usize = 0;
     while i < n {
         let s = streams[i];
         let f = s.phase as usize - 1;
-        needs[f] = larger(needs[f], flows::need(s, t));
+        needs[f] = u32_larger(needs[f], flows::need(s, t));
         i += 1;
     }
     needs
@@ -136,21 +133,26 @@ fn onward(f: u8, g: u8, count: usize, entry: u16) -> u32
 }
 
 // The largest entry from each phase's streams to those of the next phase, by one pass over the zones.
-fn entries_of(streams: [Stream; 16], conflicts: Conflicts, zones: usize, count: usize) -> [u32; 6]
+fn entries_of(
+    streams: [Stream; MOST_STREAMS],
+    conflicts: Conflicts,
+    zones: usize,
+    count: usize,
+) -> [u32; MOST_PHASES]
     requires zones { ⌜ ZonesPhases streams conflicts zones ⌝ }
     requires count { ⌜ count ≤ 6 ⌝ }
     ensures { λ r. ⌜ ByPhase (entriesBy streams conflicts count zones) r ⌝ }
 {
-    let mut entries: [u32; 6] = [0; 6];
+    let mut entries: [u32; MOST_PHASES] = [0; MOST_PHASES];
     let mut i: usize = 0;
     while i < zones {
         let c = conflicts.of[i];
         let a = streams[c.a as usize - 1];
         let b = streams[c.b as usize - 1];
         let f = a.phase as usize - 1;
-        entries[f] = larger(entries[f], onward(a.phase, b.phase, count, c.ahead));
+        entries[f] = u32_larger(entries[f], onward(a.phase, b.phase, count, c.atob));
         let g = b.phase as usize - 1;
-        entries[g] = larger(entries[g], onward(b.phase, a.phase, count, c.behind));
+        entries[g] = u32_larger(entries[g], onward(b.phase, a.phase, count, c.btoa));
         i += 1;
     }
     entries
@@ -163,7 +165,7 @@ fn phase_with(ratio: u32, entry: u32, need: u32) -> Phase
     Phase {
         cars: 1 <= ratio,
         ratio,
-        intergreen: larger(1, entry),
+        intergreen: u32_larger(1, entry),
         need,
     }
 }
@@ -183,7 +185,7 @@ pub fn phases_at(j: Junction, loads: Loads, conflicts: Conflicts, t: u16) -> Pha
     let needs = needs_at(streams, n, t);
     let mut q = Phases {
         count,
-        of: [phase_lengths::no_phase(); 6],
+        of: [phase_lengths::no_phase(); MOST_PHASES],
     };
     let mut i: usize = 0;
     while i < count {
@@ -204,7 +206,7 @@ pub fn at_cycle(j: Junction, q: Phases, t: u16) -> Phases
     let count = q.count;
     let mut now = Phases {
         count,
-        of: [phase_lengths::no_phase(); 6],
+        of: [phase_lengths::no_phase(); MOST_PHASES],
     };
     let mut i: usize = 0;
     while i < count {

@@ -12,9 +12,9 @@ use Rattle.laws.specs.Sums.{sumOf, sum-next, sum-part, sum-same, sum-at-most, s
 use Rattle.laws.specs.Tests.{by-test, both-left, both-right}
 use Rattle.phase_lengths.specs.declared.Phase.{Phase}
 use Rattle.phase_lengths.specs.declared.Phases.{Phases}
-use Rattle.phase_lengths.specs.Phases.{noPhase, phase, lost, term, sum, ratioSum, lostTime}
+use Rattle.phase_lengths.specs.Phases.{noPhase, phase, lost, ratioSum, lostTime}
 use Rattle.phase_greens.specs.declared.Sharing.{Sharing}
-use Rattle.phase_greens.specs.Greens.{share, shares, sharing, carsBefore, extra, greenAt, startAt, firstShort, possible}
+use Rattle.phase_greens.specs.Greens.{share, shares, sharing, carsBefore, extra, greenAt, startAt, firstBelowOne, givesGreens}
 
 -- phases as a junction has them
 pub record Right (q : Phases) : Type 0 where
@@ -63,12 +63,12 @@ module _ (q : Phases) (r : Right q) (t : ℕ) where
   shares-are = sum-same _ _ 6 (λ i low. shared-is i)
 
   shared-within : sumOf (shared q t) 6 ≤ t - lostTime q
-  unfolding ratioSum sum term
+  unfolding ratioSum
   shared-within = rw shares-are (shares-within (λ i. phase q i .ratio) 6 (t - lostTime q) (r .some))
 
   -- the seconds left over are fewer than the phases with cars
   pub left-fewer : sharing q t .left < carsBefore q 6
-  unfolding sharing shares ratioSum carsBefore sum term
+  unfolding sharing shares ratioSum carsBefore
   left-fewer =
       let close : t - lostTime q < sumOf (shared q t) 6 + carsBefore q 6 =
       rw shares-are
@@ -80,11 +80,11 @@ module _ (q : Phases) (r : Right q) (t : ℕ) where
       by-test (ltb i (q .count)) (λ f. ltb-true _ _ f)
       (λ f. absurd (false≢true (sym (ap Phase.cars (r .none i (ltb-false _ _ f))) ∙ e)))
 
-  module _ (p : possible q t ≡ true) where
+  module _ (p : givesGreens q t ≡ true) where
     pub green-some : (i : ℕ) → i < q .count → 1 ≤ greenAt q (sharing q t) i
-    unfolding possible firstShort
+    unfolding givesGreens firstBelowOne
     green-some i h =
-        let all : q .count ≤ firstShort q (sharing q t) = leb-true _ _ (both-right (leb (lostTime q) t) _ p) in
+        let all : q .count ≤ firstBelowOne q (sharing q t) = leb-true _ _ (both-right (leb (lostTime q) t) _ p) in
         ltb-false _ _ (first-fails (λ k. ltb (greenAt q (sharing q t) k) 1) (q .count) 0 i zero-le (omega arith))
 
     -- green and intergreen are the share, what is given of the seconds left over, and the lost time
@@ -97,9 +97,9 @@ module _ (q : Phases) (r : Right q) (t : ℕ) where
         rw e (omega (arith, r .between i place)))
         (λ e. let none : shared q t i ≡ 0 = shared-is i ∙ rw (r .plain i e, zero-mul, zero-div) in rw e (omega arith))
 
-    -- greens and intergreens fill the cycle exactly
+    -- greens and intergreens fill the cycle exactly (37)
     pub fills : startAt q (sharing q t) 6 ≡ t
-    unfolding startAt sharing shares lostTime sum term possible
+    unfolding startAt sharing shares lostTime givesGreens
     fills =
         let more = given q (sharing q t .left) in
         let losts : ℕ → ℕ = λ i. lost (phase q i) in
@@ -129,7 +129,7 @@ module _ (q : Phases) (r : Right q) (t : ℕ) where
 
     -- each phase with cars needs a second more than is lost to it
     pub above-lost : lostTime q < t
-    unfolding startAt lostTime carsBefore sum term
+    unfolding startAt lostTime carsBefore
     above-lost =
         let losts : ℕ → ℕ = λ i. lost (phase q i) in
         let cars = counted q in
@@ -137,5 +137,5 @@ module _ (q : Phases) (r : Right q) (t : ℕ) where
         omega (arith, sum-plus losts cars 6, fills, left-fewer)
 
   -- so a length that is all lost is not possible
-  pub no-room : t ≡ lostTime q → possible q t ≡ false
-  no-room e = by-test (possible q t) (λ p. absurd (omega (arith, above-lost p))) (λ p. p)
+  pub no-room : t ≡ lostTime q → givesGreens q t ≡ false
+  no-room e = by-test (givesGreens q t) (λ p. absurd (omega (arith, above-lost p))) (λ p. p)

@@ -46,9 +46,9 @@ unfoldable pub startAt : Phases → Sharing → ℕ → ℕ
 startAt q s n = sumOf (λ i. greenAt q s i + phase q i .intergreen) n
 
 -- the first place of a phase whose green is below 1; the number of phases where none is
-unfoldable pub firstShort : Phases → Sharing → ℕ
-firstShort q s = firstBelow (λ i. ltb (greenAt q s i) 1) (q .count) 0
+unfoldable pub firstBelowOne : Phases → Sharing → ℕ
+firstBelowOne q s = firstBelow (λ i. ltb (greenAt q s i) 1) (q .count) 0
 
 -- a length fails if it is below L or a green is below 1
-unfoldable pub possible : Phases → ℕ → Bool
-possible q t = leb (lostTime q) t && leb (q .count) (firstShort q (sharing q t))
+unfoldable pub givesGreens : Phases → ℕ → Bool
+givesGreens q t = leb (lostTime q) t && leb (q .count) (firstBelowOne q (sharing q t))

@@ -7,7 +7,7 @@ use lib.Dec.{ltb}
 use lib.ListN.{getD, replicate}
 use Rattle.laws.specs.Filled.{filled, filled-at}
 use Rattle.laws.specs.Search.{firstBelow, first-same}
-use Rattle.phase_greens.specs.Greens.{greenAt, startAt, firstShort}
+use Rattle.phase_greens.specs.Greens.{greenAt, startAt, firstBelowOne}
 use Rattle.phase_lengths.specs.declared.Phases.{Phases}
 use Rattle.phase_greens.specs.declared.Sharing.{Sharing}
 use Rattle.phase_greens.specs.declared.Slot.{Slot}
@@ -29,10 +29,10 @@ unfolding slotsOf
 slot-place q s i h = filled-at (slotAt q s) (replicate 6 noSlot) 6 i noSlot h (le-refl 6)
 
 -- the first of the first n places whose green is below 1
-unfoldable pub firstShortIn : Slots → ℕ → ℕ
-firstShortIn slots n = firstBelow (λ i. ltb (getD (slots .of) i noSlot .green) 1) n 0
+unfoldable pub firstBelowOneIn : Slots → ℕ → ℕ
+firstBelowOneIn slots n = firstBelow (λ i. ltb (getD (slots .of) i noSlot .green) 1) n 0
 
 -- by the table it is the same
-pub short-tabled : (q : Phases) (s : Sharing) → q .count ≤ 6 → firstShortIn (slotsOf q s) (q .count) ≡ firstShort q s
-unfolding firstShortIn firstShort
+pub short-tabled : (q : Phases) (s : Sharing) → q .count ≤ 6 → firstBelowOneIn (slotsOf q s) (q .count) ≡ firstBelowOne q s
+unfolding firstBelowOneIn firstBelowOne
 short-tabled q s few = first-same _ _ (q .count) 0 (λ i low high. rw (slot-place q s i (omega arith)))

@@ -2,9 +2,10 @@
 ghost use mathlib.Core.Bool.{cond};
 ghost use mathlib.Core.Path.{_≡_};
 ghost use Prim.Native.Nat.{_-_, _≤_};
-ghost use Rattle.phase_greens.specs.Greens.{share as shareOf, shares as sharesIn, sharing as sharingOf, extra as extraOf, greenBy, possible as possibleAt};
-ghost use Rattle.phase_greens.specs.Slots.{noSlot, slotsOf, firstShortIn};
+ghost use Rattle.phase_greens.specs.Greens.{share as shareOf, shares as sharesIn, sharing as sharingOf, extra as extraOf, greenBy, givesGreens};
+ghost use Rattle.phase_greens.specs.Slots.{noSlot, slotsOf, firstBelowOneIn};
 use laws::above;
+use limits::MOST_PHASES;
 use phase_lengths::Phase;
 use phase_lengths::Phases;
 
@@ -24,7 +25,7 @@ pub struct Slot {
 
 // Those of six places; of an empty place the green is 0.
 pub struct Slots {
-    pub of: [Slot; 6],
+    pub of: [Slot; MOST_PHASES],
 }
 
 // (34): a phase's part of the seconds by its flow ratio, rounded down; 0 where the sum of ratios is 0.
@@ -44,7 +45,7 @@ fn shares(q: Phases, seconds: u16, ratios: u64) -> u64
 {
     let mut total: u64 = 0;
     let mut i: usize = 0;
-    while i < 6 {
+    while i < MOST_PHASES {
         let p = q.of[i];
         total += share(p.ratio, seconds, ratios);
         i += 1;
@@ -52,22 +53,20 @@ fn shares(q: Phases, seconds: u16, ratios: u64) -> u64
     total
 }
 
-// The difference, or 0 where it would be below 0.
+// The seconds of a length above its lost time, 0 where it is below it.
 fn spare(t: u16, lost: u64) -> u16
     ensures { λ r. ⌜ r ≡ t - lost ⌝ }
 {
-    if (t as u64) < lost {
-        return 0;
-    }
-    (t as u64 - lost) as u16
+    above(t as u64, lost) as u16
 }
 
 // What is shared out at a length.
 pub fn shared_out(q: Phases, t: u16) -> Sharing
     ensures { λ r. ⌜ r ≡ sharingOf q t ⌝ }
 {
-    let seconds = spare(t, phase_lengths::lost_time(q));
-    let ratios = phase_lengths::ratio_sum(q);
+    let sums = phase_lengths::sums_of(q);
+    let seconds = spare(t, sums.lost);
+    let ratios = sums.ratios;
     let given = shares(q, seconds, ratios);
     Sharing {
         seconds,
@@ -93,7 +92,7 @@ fn extra(before: u64, left: u64) -> u64
 }
 
 // The green of a phase with so many phases with cars before it: effective green less 1 with cars (36), the need without.
-fn green_of(p: Phase, s: Sharing, before: u64) -> u64
+fn green_by(p: Phase, s: Sharing, before: u64) -> u64
     ensures { λ r. ⌜ r ≡ greenBy p s before ⌝ }
     ensures small { λ r. ⌜ r ≤ 281474976710656 ⌝ }
 {
@@ -116,13 +115,15 @@ fn no_slot() -> Slot
 pub fn slots_of(q: Phases, s: Sharing) -> Slots
     ensures { λ r. ⌜ r ≡ slotsOf q s ⌝ }
 {
-    let mut all = Slots { of: [no_slot(); 6] };
+    let mut all = Slots {
+        of: [no_slot(); MOST_PHASES],
+    };
     let mut start: u64 = 0;
     let mut before: u64 = 0;
     let mut i: usize = 0;
-    while i < 6 {
+    while i < MOST_PHASES {
         let p = q.of[i];
-        let green = green_of(p, s, before);
+        let green = green_by(p, s, before);
         all.of[i] = Slot { start, green };
         start += green + p.intergreen as u64;
         before += one(p.cars);
@@ -132,9 +133,9 @@ pub fn slots_of(q: Phases, s: Sharing) -> Slots
 }
 
 // The first of the first places whose green is below 1; their number where none is.
-fn first_short(slots: Slots, n: usize) -> usize
+fn first_below_one(slots: Slots, n: usize) -> usize
     requires { ⌜ n ≤ 6 ⌝ }
-    ensures { λ r. ⌜ r ≡ firstShortIn slots n ⌝ }
+    ensures { λ r. ⌜ r ≡ firstBelowOneIn slots n ⌝ }
 {
     let mut i: usize = 0;
     while i < n {
@@ -148,11 +149,12 @@ fn first_short(slots: Slots, n: usize) -> usize
 }
 
 // Whether a length is at least its lost time and gives every phase a green of 1 or more.
-pub fn possible(q: Phases, slots: Slots, t: u16) -> bool
+pub fn gives_greens(q: Phases, slots: Slots, t: u16) -> bool
     requires count { ⌜ q .count ≤ 6 ⌝ }
     requires slots { ⌜ slots ≡ slotsOf q (sharingOf q t) ⌝ }
-    ensures { λ r. ⌜ r ≡ possibleAt q t ⌝ }
+    ensures { λ r. ⌜ r ≡ givesGreens q t ⌝ }
 {
-    let short = first_short(slots, q.count);
-    (phase_lengths::lost_time(q) <= t as u64) & (q.count <= short)
+    let short = first_below_one(slots, q.count);
+    let sums = phase_lengths::sums_of(q);
+    (sums.lost <= t as u64) & (q.count <= short)
 }

@@ -13,23 +13,23 @@ use Rattle.laws.specs.Tests.{by-test}
 use Rattle.phase_lengths.specs.Phases.{longEnough, firstLength}
 
 -- a length that is long enough stays so when it grows
-pub long-enough-stays : (slow : Bool) (ratios lost t u : ℕ) → t ≤ u → longEnough slow ratios lost t ≡ true
-    → longEnough slow ratios lost u ≡ true
+pub long-enough-stays : (mixed : Bool) (ratios lost t u : ℕ) → t ≤ u → longEnough mixed ratios lost t ≡ true
+    → longEnough mixed ratios lost u ≡ true
 unfolding longEnough
 long-enough-stays true ratios lost t u more h =
     le-leb _ _ (le-trans (leb-true _ _ h) (mul-le-mul-right (10000 - ratios) (mul-le-mul more more)))
 long-enough-stays false ratios lost t u more h = le-leb _ _ (le-trans (leb-true _ _ h) (mul-le-mul-right (10000 - ratios) more))
 
-module _ (slow : Bool) (ratios lost : ℕ) where
+module _ (mixed : Bool) (ratios lost : ℕ) where
   -- 181 stands for none up to 180
-  pub first-length-range : Between 1 181 (firstLength slow ratios lost)
+  pub first-length-range : Between 1 181 (firstLength mixed ratios lost)
   unfolding firstLength
-  first-length-range = first-range (longEnough slow ratios lost) 181 1 (omega arith)
+  first-length-range = first-range (longEnough mixed ratios lost) 181 1 (omega arith)
 
-  pub first-length-least : (t : ℕ) → Between 1 180 t → (firstLength slow ratios lost ≤ t) ↔ (longEnough slow ratios lost t ≡ true)
+  pub first-length-least : (t : ℕ) → Between 1 180 t → (firstLength mixed ratios lost ≤ t) ↔ (longEnough mixed ratios lost t ≡ true)
   unfolding firstLength
   first-length-least t b = (
-    λ h. long-enough-stays slow ratios lost _ t h (first-passes (longEnough slow ratios lost) 181 1 (omega arith) (omega arith)),
-    λ h. by-test (leb (firstLength slow ratios lost) t) (λ e. leb-true _ _ e)
-        (λ e. absurd (false≢true (sym (first-fails (longEnough slow ratios lost) 181 1 t (b .0) (leb-false _ _ e)) ∙ h))),
+    λ h. long-enough-stays mixed ratios lost _ t h (first-passes (longEnough mixed ratios lost) 181 1 (omega arith) (omega arith)),
+    λ h. by-test (leb (firstLength mixed ratios lost) t) (λ e. leb-true _ _ e)
+        (λ e. absurd (false≢true (sym (first-fails (longEnough mixed ratios lost) 181 1 t (b .0) (leb-false _ _ e)) ∙ h))),
   )

@@ -8,42 +8,37 @@ use Rattle.laws.specs.Search.{firstBelow}
 use Rattle.laws.specs.Sums.{sumOf}
 use Rattle.phase_lengths.specs.declared.Phase.{Phase}
 use Rattle.phase_lengths.specs.declared.Phases.{Phases}
-use Rattle.phase_lengths.specs.declared.Figure.{Figure}
-use Rattle.phase_lengths.specs.declared.Figure.the-variants.{Ratio, Lost}
+use Rattle.phase_lengths.specs.declared.Sums.{Sums}
+use Rattle.limits.specs.Limits.{mostPhases, noCycle}
 
 abbrev pub noPhase : Phase
 noPhase = record { cars = false; ratio = 0; intergreen = 0; need = 0 }
 
 -- the phase at a place, from 0
 unfoldable pub phase : Phases → ℕ → Phase
-phase q i = cond (ltb i 6) (getD (q .of) i noPhase) noPhase
+phase q i = cond (ltb i mostPhases) (getD (q .of) i noPhase) noPhase
 
 -- the time lost to a phase: M - 1 with cars (30), need + M for others
 unfoldable pub lost : Phase → ℕ
 lost p = cond (p .cars) (p .intergreen - 1) (p .need + p .intergreen)
 
--- a figure of a phase, and its sum over the first n places
-unfoldable pub term : Phase → Figure → ℕ
-term p Ratio = p .ratio
-term p Lost = lost p
-
-unfoldable pub sum : Phases → Figure → ℕ → ℕ
-sum q what n = sumOf (λ i. term (phase q i) what) n
-
 -- Y
 unfoldable pub ratioSum : Phases → ℕ
-ratioSum q = sum q Ratio 6
+ratioSum q = sumOf (λ i. phase q i .ratio) mostPhases
 
 -- L (31)
 unfoldable pub lostTime : Phases → ℕ
-lostTime q = sum q Lost 6
+lostTime q = sumOf (λ i. lost (phase q i)) mostPhases
+
+abbrev pub sumsOf : Phases → Sums
+sumsOf q = record { ratios = ratioSum q; lost = lostTime q }
 
 -- a length that is at least the optimum: with pedestrians or trams, T² × (10,000 - Y) at least 1,200,000 × L (33); otherwise
 -- T × (10,000 - Y) at least 15,000 × L + 50,000 (32)
 unfoldable pub longEnough : Bool → ℕ → ℕ → ℕ → Bool
-longEnough slow ratios lost t =
-    cond slow (leb (1200000 * lost) (t * t * (10000 - ratios))) (leb (15000 * lost + 50000) (t * (10000 - ratios)))
+longEnough mixed ratios lost t =
+    cond mixed (leb (1200000 * lost) (t * t * (10000 - ratios))) (leb (15000 * lost + 50000) (t * (10000 - ratios)))
 
 -- T0: the least such length, from 1 on; 181 where none up to 180 is
 unfoldable pub firstLength : Bool → ℕ → ℕ → ℕ
-firstLength slow ratios lost = firstBelow (longEnough slow ratios lost) 181 1
+firstLength mixed ratios lost = firstBelow (longEnough mixed ratios lost) noCycle 1

@@ -3,8 +3,10 @@
 ghost use mathlib.Core.Path.{_≡_};
 ghost use Prim.Native.Nat.{_+_, _*_, _≤_};
 ghost use lib.Dec.{leb};
-ghost use Rattle.phase_lengths.specs.Phases.{noPhase, phase, lost as lostOf, term as termOf, sum as sumIn, ratioSum, lostTime, longEnough, firstLength};
+ghost use Rattle.phase_lengths.specs.Phases.{noPhase, phase, lost as lostOf, sumsOf, longEnough, firstLength};
 use laws::above;
+use limits::MOST_PHASES;
+use limits::NO_CYCLE;
 
 // A phase: whether it has cars, the largest flow ratio of these in ten-thousandths, M toward the next phase, and the largest needed green of
 // its streams.
@@ -18,13 +20,13 @@ pub struct Phase {
 // The phases in their order; the places after the last are empty.
 pub struct Phases {
     pub count: usize,
-    pub of: [Phase; 6],
+    pub of: [Phase; MOST_PHASES],
 }
 
-// A figure of each phase that is summed.
-pub enum Figure {
-    Ratio,
-    Lost,
+// The sums over a junction's phases: Y, of the flow ratios, and L, of the time lost to each (31).
+pub struct Sums {
+    pub ratios: u64,
+    pub lost: u64,
 }
 
 // What stands in an empty place.
@@ -43,7 +45,7 @@ pub fn no_phase() -> Phase
 pub fn phase_at(q: Phases, i: usize) -> Phase
     ensures { λ r. ⌜ r ≡ phase q i ⌝ }
 {
-    if i < 6 {
+    if i < MOST_PHASES {
         return q.of[i];
     }
     no_phase()
@@ -60,42 +62,20 @@ fn lost(p: Phase) -> u64
     p.need as u64 + p.intergreen as u64
 }
 
-fn term(p: Phase, what: Figure) -> u64
-    ensures { λ r. ⌜ r ≡ termOf p what ⌝ }
-    ensures small { λ r. ⌜ r ≤ 8589934592 ⌝ }
+// Y and L by one pass over the phases.
+pub fn sums_of(q: Phases) -> Sums
+    ensures { λ r. ⌜ r ≡ sumsOf q ⌝ }
 {
-    match what {
-        Figure::Ratio => p.ratio as u64,
-        Figure::Lost => lost(p),
-    }
-}
-
-// The sum of a figure over the first places.
-fn sum(q: Phases, what: Figure, n: usize) -> u64
-    requires { ⌜ n ≤ 6 ⌝ }
-    ensures { λ r. ⌜ r ≡ sumIn q what n ⌝ }
-{
-    let mut total: u64 = 0;
+    let mut ratios: u64 = 0;
+    let mut time: u64 = 0;
     let mut i: usize = 0;
-    while i < n {
-        total += term(phase_at(q, i), what);
+    while i < MOST_PHASES {
+        let p = q.of[i];
+        ratios += p.ratio as u64;
+        time += lost(p);
         i += 1;
     }
-    total
-}
-
-// Y, the sum of the phases' flow ratios.
-pub fn ratio_sum(q: Phases) -> u64
-    ensures { λ r. ⌜ r ≡ ratioSum q ⌝ }
-{
-    sum(q, Figure::Ratio, 6)
-}
-
-// L, the time lost in a cycle (31).
-pub fn lost_time(q: Phases) -> u64
-    ensures { λ r. ⌜ r ≡ lostTime q ⌝ }
-{
-    sum(q, Figure::Lost, 6)
+    Sums { ratios, lost: time }
 }
 
 // Whether 1,200,000 × lost is at most a product (33).
@@ -113,23 +93,23 @@ fn by_32(lost: u64, product: u64) -> bool
 }
 
 // Whether a length is at least the optimum: by (33) where there are pedestrians or trams, else by (32).
-fn long_enough(slow: bool, ratios: u64, lost: u64, t: u16) -> bool
-    ensures { λ r. ⌜ r ≡ longEnough slow ratios lost t ⌝ }
+fn long_enough(mixed: bool, ratios: u64, lost: u64, t: u16) -> bool
+    ensures { λ r. ⌜ r ≡ longEnough mixed ratios lost t ⌝ }
 {
     let free = above(10000, ratios);
-    if slow {
+    if mixed {
         return by_33(lost, t as u64 * t as u64 * free);
     }
     by_32(lost, t as u64 * free)
 }
 
 // T0, the least length, from 1 on, that is long enough; 181 where none up to 180 is.
-pub fn first_length(slow: bool, ratios: u64, lost: u64) -> u16
-    ensures { λ r. ⌜ r ≡ firstLength slow ratios lost ⌝ }
+pub fn first_length(mixed: bool, ratios: u64, lost: u64) -> u16
+    ensures { λ r. ⌜ r ≡ firstLength mixed ratios lost ⌝ }
 {
     let mut t: u16 = 1;
-    while t < 181 {
-        if long_enough(slow, ratios, lost, t) {
+    while t < NO_CYCLE {
+        if long_enough(mixed, ratios, lost, t) {
             return t;
         }
         t += 1;

@@ -3,7 +3,8 @@
 use fields::Verdict;
 use libc::STDIN_FILENO;
 use libc::STDOUT_FILENO;
-use plans::Plan;
+use limits::MOST_STREAMS;
+use plan_file::Plan;
 
 fn main() {
     // One byte more than a file may have, so that a longer one is refused by the library.
@@ -28,12 +29,12 @@ fn at_end(size: usize) -> bool {
 fn answer(file: &[u8]) {
     // Room for a plan of sixteen streams.
     let mut out = [0u8; 133];
-    let worked = working_out::work_out(file, &mut out);
+    let worked = planner::work_out(file, &mut out);
     let verdict = worked.verdict;
     match verdict {
         Verdict::Passed => lines(
-            plans::plan_of(&out),
-            reading::read(file).junction.held.streams,
+            plan_file::plan_of(&out),
+            junction_file::read(file).junction.held.streams,
         ),
         Verdict::Refused { number, place } => refusal(number, place),
     }
@@ -59,7 +60,7 @@ fn lines(p: Plan, streams: usize) {
 }
 
 fn greens(p: Plan, streams: usize) {
-    for i in 0..16 {
+    for i in 0..MOST_STREAMS {
         if i < streams {
             line(p, i + 1);
         }
@@ -67,7 +68,7 @@ fn greens(p: Plan, streams: usize) {
 }
 
 fn line(p: Plan, n: usize) {
-    let green = plans::green_of(p, n);
+    let green = plan_file::green_of(p, n);
     io::print_decimal(STDOUT_FILENO, n as u64);
     put(b" ");
     io::print_decimal(STDOUT_FILENO, green.start as u64);

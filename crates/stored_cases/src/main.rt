@@ -1,6 +1,6 @@
 // Reads test cases on standard input, one a line, and prints the library's answer to each, to be read against the papers.
 //
-// A case is a word that says what is asked, a label, a colon and what is asked about; bytes are in hexadecimal, as crate `cases` reads them.
+// A case is a word that says what is asked, a label, a colon and what is asked about; bytes are in hexadecimal, as crate `case_text` reads them.
 //
 //     read LABEL: BYTES         a junction file: `taken` with the numbers of streams, zones and counts, or `refused`, number and place
 //     judge LABEL: BYTES        a plan file for the last junction file given: `accepted`, or `refused`, number and place
@@ -12,12 +12,12 @@
 // with `#` are printed as they are.
 ghost use Prim.Native.Nat.{_≤_};
 ghost use lib.ListN.{length};
-use cases::put;
-use cases::put_number;
+use case_text::put;
+use case_text::put_number;
 use fields::Verdict;
 use junction::Held;
 use libc::STDIN_FILENO;
-use working_out::Worked;
+use planner::Worked;
 
 // What every byte of a lent buffer is before.
 const BEFORE: u8 = 0xa5;
@@ -40,8 +40,8 @@ fn answer_lines(text: &[u8]) {
     let mut at: usize = 0;
     while at < text.len() {
         junction = latest(text, at, junction);
-        answer_line(cases::line(text, at), cases::line(text, junction));
-        at = cases::next_line(text, at);
+        answer_line(case_text::line(text, at), case_text::line(text, junction));
+        at = case_text::next_line(text, at);
     }
 }
 
@@ -51,33 +51,33 @@ fn latest(text: &[u8], at: usize, before: usize) -> usize
     requires { ⌜ before ≤ length (now text) ⌝ }
     ensures { λ r. ⌜ r ≤ length (now (text .entry)) ⌝ }
 {
-    if cases::begins(&text[at..], b"junction:") {
+    if case_text::begins(&text[at..], b"junction:") {
         return at;
     }
     before
 }
 
 fn answer_line(line: &[u8], junction: &[u8]) {
-    if cases::begins(line, b"junction:") {
+    if case_text::begins(line, b"junction:") {
         return;
     }
-    if cases::is_comment(line) {
+    if case_text::is_comment(line) {
         put(line);
     } else {
-        put(cases::head(line));
+        put(case_text::head(line));
         answer(line, junction);
     }
     put(b"\n");
 }
 
 fn answer(line: &[u8], junction: &[u8]) {
-    if cases::begins(line, b"read ") {
+    if case_text::begins(line, b"read ") {
         return read(line);
     }
-    if cases::begins(line, b"judge ") {
+    if case_text::begins(line, b"judge ") {
         return judge(junction, line);
     }
-    if cases::begins(line, b"plan ") {
+    if case_text::begins(line, b"plan ") {
         return plan(line);
     }
     put(b" not known");
@@ -97,13 +97,13 @@ fn passed(verdict: Verdict) -> bool {
 }
 
 fn read(line: &[u8]) {
-    let mut file = cases::file();
-    let size = cases::fill(line, &mut file);
+    let mut file = case_text::file();
+    let size = case_text::fill(line, &mut file);
     tell_report(read_file(&file[0..size]));
 }
 
 fn read_file(file: &[u8]) -> Report {
-    let reading = reading::read(file);
+    let reading = junction_file::read(file);
     let verdict = reading.verdict;
     let held = reading.junction.held;
     Report { verdict, held }
@@ -120,23 +120,23 @@ fn tell_report(report: Report) {
 }
 
 fn judge(junction_line: &[u8], line: &[u8]) {
-    let mut junction = cases::file();
-    let size = cases::fill(junction_line, &mut junction);
+    let mut junction = case_text::file();
+    let size = case_text::fill(junction_line, &mut junction);
     judge_for(&junction[0..size], line);
 }
 
 fn judge_for(junction: &[u8], line: &[u8]) {
-    let mut plan = cases::file();
-    let size = cases::fill(line, &mut plan);
-    if passed(judging::judge(junction, &plan[0..size])) {
+    let mut plan = case_text::file();
+    let size = case_text::fill(line, &mut plan);
+    if passed(plan_judge::judge(junction, &plan[0..size])) {
         put(b" accepted");
     }
 }
 
 fn plan(line: &[u8]) {
-    let mut junction = cases::file();
-    let size = cases::fill_after_number(line, &mut junction);
-    work_out(&junction[0..size], cases::number(line, 300));
+    let mut junction = case_text::file();
+    let size = case_text::fill_after_number(line, &mut junction);
+    work_out(&junction[0..size], case_text::number(line, 300));
 }
 
 fn work_out(junction: &[u8], room: usize)
@@ -145,7 +145,7 @@ fn work_out(junction: &[u8], room: usize)
     let mut out = [BEFORE; 300];
     let worked = lend(junction, room, &mut out);
     let size = tell_worked(worked, read_file(junction).held.streams);
-    cases::put_bytes(&out[0..size]);
+    case_text::put_bytes(&out[0..size]);
     tell_kept(&out[size..]);
 }
 
@@ -153,7 +153,7 @@ fn work_out(junction: &[u8], room: usize)
 fn lend(junction: &[u8], room: usize, out: &mut [u8]) -> Worked
     requires { ⌜ room ≤ length (now out) ⌝ }
 {
-    working_out::work_out(junction, &mut out[0..room])
+    planner::work_out(junction, &mut out[0..room])
 }
 
 // Prints all but the bytes of the plan file, and answers how many these are.
@@ -179,7 +179,7 @@ fn plan_size(streams: usize) -> usize
 }
 
 fn tell_kept(rest: &[u8]) {
-    if cases::begins(&[BEFORE; 300], rest) {
+    if case_text::begins(&[BEFORE; 300], rest) {
         put(b" kept");
     } else {
         put(b" spoilt");

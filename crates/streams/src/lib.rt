@@ -1,5 +1,7 @@
 // The streams of a junction (document 01, "The junction file"). Lengths are decimetres unless said; a flag is true where the
 // file has 1.
+ghost use mathlib.Core.Path.{_≡_};
+ghost use Rattle.streams.specs.Kinds.{isCar};
 
 pub struct CarFigures {
     // Amber in seconds.
@@ -58,4 +60,17 @@ pub enum Kind {
 pub struct Stream {
     pub phase: u8,
     pub kind: Kind,
+}
+
+// Whether a stream is a car's.
+pub fn is_car(s: Stream) -> bool
+    ensures { λ r. ⌜ r ≡ isCar (s .kind) ⌝ }
+{
+    let kind = s.kind;
+    match kind {
+        Kind::Car(_) => true,
+        Kind::Tram(_) => false,
+        Kind::Pedestrian(_) => false,
+        Kind::Cyclist(_) => false,
+    }
 }

@@ -1,6 +1,6 @@
-pub mod Bounds
 pub mod Comparison
 pub mod Entry
 pub mod Least
 pub mod Monotone
 pub mod Times
+pub mod lemmas

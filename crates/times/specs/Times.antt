@@ -50,7 +50,7 @@ carReaching c r = cond (c .flying) (passing r) (Root (r + 15) 10 1)
 unfoldable pub tramReaching : TramFigures → ℕ → Time
 tramReaching t r = cond (t .stop) (Root (r + 15) 5 0) (passing r)
 
--- r/speed if the time is counted, else 0 (17, 18; 17', 18')
+-- r/speed if the time is counted (18, 18'), else 0 (17, 17')
 unfoldable pub countedReaching : Bool → ℕ → ℕ → Time
 countedReaching counted r speed = cond counted (Ratio r speed) (Ratio 0 1)
 

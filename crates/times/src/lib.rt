@@ -1,7 +1,7 @@
 // Times at a conflict zone and the entry from one stream to another (annex, section 1; document 01, "Times at a zone").
 ghost use mathlib.Core.Path.{_≡_};
 ghost use Prim.Native.Nat.{_≤_, _^_};
-ghost use Rattle.times.specs.Bounds.{Small, SmallRatio, SmallRoot, SmallRoots, Timed};
+ghost use Rattle.times.specs.lemmas.Bounds.{TimeSmall, SmallRatio, SmallRoot, SmallRoots, Timed};
 ghost use Rattle.times.specs.Comparison.{ratioRatio, ratioRoot, rootRatio, rootAfter, rootBefore, rootRoot, ratioWithin, rootWithin, within as withinGap};
 ghost use Rattle.times.specs.Times.{carTime, carLeaving, stopLeaving, tramLeaving, leaving as leavingTime, passing as passingTime, carReaching, tramReaching, countedReaching, reaching as reachingTime};
 ghost use Rattle.times.specs.Entry.{leastGap, entry as entryOf};
@@ -30,7 +30,7 @@ pub fn entry(i: Stream, j: Stream, clearing: u16, reach: u16) -> u16
 }
 
 fn least_gap(leave: Time, reach: Time) -> u16
-    requires { ⌜ Small leave ⌝ ∗ ⌜ Small reach ⌝ }
+    requires { ⌜ TimeSmall leave ⌝ ∗ ⌜ TimeSmall reach ⌝ }
     ensures { λ r. ⌜ r ≡ leastGap leave reach ⌝ }
 {
     let mut gap: u16 = 0;
@@ -45,7 +45,7 @@ fn least_gap(leave: Time, reach: Time) -> u16
 
 // Whether the leaving time is at most gap + the reaching time.
 fn within(leave: Time, reach: Time, gap: u64) -> bool
-    requires { ⌜ Small leave ⌝ ∗ ⌜ Small reach ⌝ ∗ ⌜ gap ≤ 65535 ⌝ }
+    requires { ⌜ TimeSmall leave ⌝ ∗ ⌜ TimeSmall reach ⌝ ∗ ⌜ gap ≤ 65535 ⌝ }
     ensures { λ r. ⌜ r ≡ withinGap leave reach gap ⌝ }
 {
     match leave {
@@ -55,7 +55,7 @@ fn within(leave: Time, reach: Time, gap: u64) -> bool
 }
 
 fn ratio_within(m: u64, b: u64, reach: Time, gap: u64) -> bool
-    requires { ⌜ SmallRatio m b ⌝ ∗ ⌜ Small reach ⌝ ∗ ⌜ gap ≤ 2 ^ 16 ⌝ }
+    requires { ⌜ SmallRatio m b ⌝ ∗ ⌜ TimeSmall reach ⌝ ∗ ⌜ gap ≤ 2 ^ 16 ⌝ }
     ensures { λ r. ⌜ r ≡ ratioWithin m b reach gap ⌝ }
 {
     match reach {
@@ -65,7 +65,7 @@ fn ratio_within(m: u64, b: u64, reach: Time, gap: u64) -> bool
 }
 
 fn root_within(q: u64, e: u64, reach: Time, gap: u64) -> bool
-    requires { ⌜ SmallRoot q e 0 ⌝ ∗ ⌜ Small reach ⌝ ∗ ⌜ gap ≤ 2 ^ 16 ⌝ }
+    requires { ⌜ SmallRoot q e 0 ⌝ ∗ ⌜ TimeSmall reach ⌝ ∗ ⌜ gap ≤ 2 ^ 16 ⌝ }
     ensures { λ r. ⌜ r ≡ rootWithin q e reach gap ⌝ }
 {
     match reach {
@@ -126,7 +126,8 @@ fn root_before(a: u64, p: u64, s: u64, h: u64) -> bool
     (low <= p) & (4 * square * s * a <= side * side)
 }
 
-// The time from the end of green until the last participant leaves, with clearing distance l.
+// The time from the end of green until the last participant leaves, with clearing distance l; a pedestrian's by (5, 12), a cyclist's by
+// (5', 12').
 fn leaving(kind: Kind, l: u16) -> Time
     ensures { λ r. ⌜ Timed r (leavingTime kind l) ⌝ }
 {
@@ -144,6 +145,7 @@ fn leaving(kind: Kind, l: u16) -> Time
     }
 }
 
+// A car: straight (1, 7), turning with a radius above 150 dm (2, 8), any other turn (2, 9).
 fn car_leaving(c: CarFigures, l: u16) -> Time
     ensures { λ r. ⌜ Timed r (carLeaving c l) ⌝ }
 {
@@ -156,7 +158,7 @@ fn car_leaving(c: CarFigures, l: u16) -> Time
     car_time(2, 50, c.amber, l)
 }
 
-// approach + (l + 60)/speed, raised to amber + 1 if lower.
+// approach + (l + 60)/speed, raised to amber + 1 if lower (9').
 fn car_time(approach: u8, speed: u8, amber: u8, l: u16) -> Time
     ensures { λ r. ⌜ Timed r (carTime approach speed amber l) ⌝ }
 {
@@ -164,11 +166,12 @@ fn car_time(approach: u8, speed: u8, amber: u8, l: u16) -> Time
     let plain = approach as u64 * v + (l as u64 + 60);
     let raised = (amber as u64 + 1) * v;
     Time::Ratio {
-        n: laws::larger(plain, raised),
+        n: laws::u64_larger(plain, raised),
         d: v,
     }
 }
 
+// A tram, from a stop or running (3, 10).
 fn tram_leaving(t: TramFigures, l: u16) -> Time
     ensures { λ r. ⌜ Timed r (tramLeaving t l) ⌝ }
 {
@@ -182,6 +185,7 @@ fn tram_leaving(t: TramFigures, l: u16) -> Time
     }
 }
 
+// From a stop: (4, 11) up to 400 dm, (11') beyond.
 fn stop_leaving(length: u16, l: u16) -> Time
     ensures { λ r. ⌜ Timed r (stopLeaving length l) ⌝ }
 {
@@ -209,6 +213,7 @@ fn reaching(kind: Kind, r: u16) -> Time
     }
 }
 
+// A car, flying (14) or standing (13).
 fn car_reaching(c: CarFigures, r: u16) -> Time
     ensures { λ t. ⌜ Timed t (carReaching c r) ⌝ }
 {
@@ -222,6 +227,7 @@ fn car_reaching(c: CarFigures, r: u16) -> Time
     }
 }
 
+// A tram, from a stop (15) or running (16).
 fn tram_reaching(t: TramFigures, r: u16) -> Time
     ensures { λ x. ⌜ Timed x (tramReaching t r) ⌝ }
 {
@@ -235,6 +241,7 @@ fn tram_reaching(t: TramFigures, r: u16) -> Time
     passing(r)
 }
 
+// (14), (16).
 fn passing(r: u16) -> Time
     ensures { λ t. ⌜ Timed t (passingTime r) ⌝ }
 {
@@ -245,6 +252,7 @@ fn passing(r: u16) -> Time
     }
 }
 
+// (18), (18') where the time is counted, else 0 (17, 17').
 fn counted_reaching(counted: bool, r: u16, speed: u8) -> Time
     ensures { λ t. ⌜ Timed t (countedReaching counted r speed) ⌝ }
 {

@@ -6,10 +6,10 @@ use mathlib.Core.Path.{_≡_, refl}
 use lib.ListN.{take}
 use Rattle.fields.specs.declared.Verdict.{Verdict}
 use Rattle.fields.specs.declared.Verdict.the-variants.{Refused}
-use Rattle.judging.specs.Judgement.{judgement}
-use Rattle.planning.specs.Planning.{firstTried}
-use Rattle.reading.specs.Reading.{reading}
-use Rattle.working_out.specs.WorkingOut.{worked}
+use Rattle.plan_judge.specs.Judgement.{judgement}
+use Rattle.cycle_search.specs.Planning.{firstTried}
+use Rattle.junction_file.specs.Reading.{reading}
+use Rattle.planner.specs.WorkingOut.{worked}
 use Rattle.whole_case.specs.Fields.{heading, car, pedestrian, cyclist, zone, count, cycle11, green12}
 use Rattle.whole_case.specs.WholeCase.{WC, WP, planFrom, toJudge, toPlan}
 

@@ -12,19 +12,22 @@ use Rattle.fields.specs.declared.Verdict.the-variants.{Passed, Refused}
 use Rattle.counts.specs.Newest.{usable, rank, rankFlow}
 use Rattle.junction.specs.Layout.{designDay, radiusInRange, sharesInRange, carInRange, carOf, tramInRange, tramOf}
 use Rattle.junction.specs.Layout.{pedestrianInRange, pedestrianOf, cyclistInRange, cyclistOf, streamLengthRight, streamInRange, kindOf, streamOf, zoneInRange, zoneOf, countInRange, countOf}
-use Rattle.questions.specs.Questions.{inOrder, lengthRight, inRange, withinLimit, streamAt, countAt, zoneAt, streamNumbered, zoneNumbered}
-use Rattle.questions.specs.Questions.{exists, zoneRefers, countRefers, refers, bodyVerdict, fieldVerdict, inPhase, firstInPhase, phaseUsed, phaseFollows, phasesRight, carAt}
-use Rattle.questions.specs.Questions.{firstCar, rankAt, newestRank, lacksCount, firstLacking, countsVerdict, whole, wholeVerdict}
-use Rattle.reading.specs.Reading.{withHeading, withStream, withZone, withCount, withField, afterField, readField, atEnd, readFrom, reading}
+use Rattle.junction_questions.specs.Questions.{inOrder, lengthRight, inRange, withinLimit}
+use Rattle.junction_places.specs.Places.{streamAt, countAt, zoneAt, streamNumbered, zoneNumbered}
+use Rattle.junction_questions.specs.Questions.{zoneRefers, countRefers, refers, bodyVerdict, fieldVerdict, inPhase, firstInPhase, phaseUsed, phaseFollows, phasesRight, carAt}
+use Rattle.junction_places.specs.Places.{exists}
+use Rattle.junction_questions.specs.Questions.{firstCar, lacksCount, firstLacking, countsVerdict, whole, wholeVerdict}
+use Rattle.junction_places.specs.Ranks.{rankAt, newestRank}
+use Rattle.junction_file.specs.Reading.{withHeading, withStream, withZone, withCount, withField, afterField, readField, atEnd, readFrom, reading}
 use Rattle.junction_figures.specs.Figures.{forward, backward, zoneEntry, pairEntry, streamNeed, streamFlow, streamSaturation, streamRatio}
-use Rattle.plans.specs.Plans.{dueVerdict, cycleExpected, cycleVerdict, greenExpected, greenInRange, greenVerdict, greensFrom, planVerdict, greenAt as fileGreen, planOf, greenOf}
-use Rattle.plans.specs.Writing.{planSize, cycleByte, greenByte, planByte, hasRoom, written}
-use Rattle.rules.specs.Rules.{needMet, enoughCapacity, capacityMet, off, zoneClear, zoneMet, rulesVerdict}
-use Rattle.judging.specs.Judgement.{planJudgement, judgement}
+use Rattle.plan_file.specs.Plans.{dueVerdict, cycleExpected, cycleVerdict, greenExpected, greenInRange, greenVerdict, greensFrom, planVerdict, greenAt as fileGreen, planOf, greenOf}
+use Rattle.plan_file.specs.Writing.{planSize, cycleByte, greenByte, planByte, hasRoom, written}
+use Rattle.plan_rules.specs.Rules.{needMet, enoughCapacity, capacityMet, off, zoneClear, zoneMet, rulesVerdict}
+use Rattle.plan_judge.specs.Judgement.{planJudgement, judgement}
 use Rattle.phase_lengths.specs.Phases.{lostTime}
-use Rattle.junction_phases.specs.JunctionPhases.{isIn, carIn, figure, largest, phaseCount, slow, nextPhase, entryBetween, zoneFigure, phaseEntry, intergreen, phaseAt, phasesAt}
-use Rattle.planning.specs.Planning.{ratios, firstTried, phaseGreen, planAt, works, cycleFrom, cycle, found}
-use Rattle.working_out.specs.WorkingOut.{calculation, junctionVerdict, junctionWorked, junctionBuffer, worked, buffer}
+use Rattle.junction_phases.specs.JunctionPhases.{isIn, carIn, hasCars, phaseRatio, phaseNeed, phaseCount, hasPedestrianOrTram, nextPhase, entryBetween, phaseEntry, intergreen, phaseAt, phasesAt}
+use Rattle.cycle_search.specs.Planning.{ratios, firstTried, phaseGreen, planAt, outcome, works, cycleFrom, cycle, found}
+use Rattle.planner.specs.WorkingOut.{calculation, junctionVerdict, junctionWorked, junctionBuffer, worked, buffer}
 use Rattle.worked_values.specs.Computed.{toTimes, toFlows, toPhases}
 use Rattle.whole_case.specs.Fields.{heading, car, pedestrian, zone, count, cycle11, green12}
 
@@ -85,13 +88,13 @@ flow-ratio : streamRatio (reading WC .junction) 1 ≡ 3117
 unfolding toJudge
 flow-ratio = refl
 
-entry-ahead : pairEntry (reading WC .junction) 1 2 ≡ 5
+entry-from-1 : pairEntry (reading WC .junction) 1 2 ≡ 5
 unfolding toJudge
-entry-ahead = refl
+entry-from-1 = refl
 
-entry-behind : pairEntry (reading WC .junction) 2 1 ≡ 4
+entry-from-2 : pairEntry (reading WC .junction) 2 1 ≡ 4
 unfolding toJudge
-entry-behind = refl
+entry-from-2 = refl
 
 formed : planVerdict WP (reading WC .junction .held .streams) ≡ Passed
 unfolding toJudge
@@ -107,8 +110,8 @@ too-early = refl
 
 unfoldable pub toPlan : Unit {0}
 unfolding toJudge toPhases planSize cycleByte greenByte planByte hasRoom written
-    isIn carIn figure largest phaseCount slow nextPhase entryBetween zoneFigure phaseEntry intergreen phaseAt phasesAt
-    ratios firstTried phaseGreen planAt works cycleFrom cycle found calculation junctionVerdict junctionWorked junctionBuffer worked buffer
+    isIn carIn hasCars phaseRatio phaseNeed phaseCount hasPedestrianOrTram nextPhase entryBetween phaseEntry intergreen phaseAt phasesAt
+    ratios firstTried phaseGreen planAt outcome works cycleFrom cycle found calculation junctionVerdict junctionWorked junctionBuffer worked buffer
 toPlan = tt
 
 lost-time : lostTime (phasesAt (reading WC .junction) 50) ≡ 14

@@ -7,8 +7,8 @@ use Rattle.times.specs.Times.{carTime, carLeaving, stopLeaving, tramLeaving, le
 use Rattle.times.specs.Entry.{leastGap, entry}
 use Rattle.flows.specs.Needs.{table3, longestCycle, tramNeed, crossingSpeed, disturbance, pedestrianNeed, kindNeed, needAt}
 use Rattle.flows.specs.Saturation.{table1, listedFrom, straightFlow, turningFlow, baseFlow, gradientPercent, conditionsPercent, turnDivisor, saturationFlow, flowRatio}
-use Rattle.phase_lengths.specs.Phases.{phase, lost, term, sum, ratioSum, lostTime, longEnough, firstLength}
-use Rattle.phase_greens.specs.Greens.{share, shares, sharing, carsBefore, extra, greenAt, startAt, firstShort, possible}
+use Rattle.phase_lengths.specs.Phases.{phase, lost, ratioSum, lostTime, longEnough, firstLength}
+use Rattle.phase_greens.specs.Greens.{share, shares, sharing, carsBefore, extra, greenAt, startAt, firstBelowOne, givesGreens}
 
 unfoldable pub toTimes : Unit {0}
 unfolding firstBelow firstOf belowRoot rootBelow ratioRatio ratioRoot rootRatio rootAfter rootBefore rootRoot ratioWithin rootWithin within
@@ -21,6 +21,6 @@ unfolding up table3 longestCycle tramNeed crossingSpeed disturbance pedestrianNe
 toFlows = tt
 
 unfoldable pub toPhases : Unit {0}
-unfolding firstBelow firstOf sumOf phase lost term sum ratioSum lostTime longEnough firstLength
-    share shares sharing carsBefore extra greenAt startAt firstShort possible
+unfolding firstBelow firstOf sumOf phase lost ratioSum lostTime longEnough firstLength
+    share shares sharing carsBefore extra greenAt startAt firstBelowOne givesGreens
 toPhases = tt

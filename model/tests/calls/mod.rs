@@ -76,6 +76,10 @@ fn neighbours(r: &mut Random, memory: &mut Vec<u8>, length: usize) {
 
 // ---- the calls
 
+pub fn release() -> u32 {
+    unsafe { givendra_release() }
+}
+
 pub fn judge(junction: &Lent, plan: &Lent) -> JudgeAnswer {
     let answer = unsafe { givendra_judge(junction.pointer(), junction.length(), plan.pointer(), plan.length()) };
     assert_lent("judge", &[junction, plan]);
@@ -158,15 +162,18 @@ pub fn same<T: PartialEq + Debug>(what: &str, library: T, model: T, junction: &[
 
 // ---- hits
 
-/// How often each answer was given: 0 stands for an answer without refusal.
+/// Numbers of refusals are below this; 0 stands for an answer without refusal.
+const NUMBERS: usize = 41;
+
+/// How often each answer was given.
 pub struct Hits {
     names: Vec<&'static str>,
-    counts: Vec<[usize; 24]>,
+    counts: Vec<[usize; NUMBERS]>,
 }
 
 impl Hits {
     pub fn new(names: &[&'static str]) -> Hits {
-        Hits { names: names.to_vec(), counts: vec![[0; 24]; names.len()] }
+        Hits { names: names.to_vec(), counts: vec![[0; NUMBERS]; names.len()] }
     }
 
     pub fn hit(&mut self, name: &str, refusal: u8) {
@@ -182,7 +189,7 @@ impl Hits {
     pub fn print(&self) {
         let heads: String = self.names.iter().map(|n| format!("{n:>17}")).collect();
         println!("{:>7}{heads}", "refusal");
-        for number in 0..24 {
+        for number in 0..NUMBERS {
             if self.counts.iter().any(|c| c[number] > 0) {
                 let row: String = self.counts.iter().map(|c| format!("{:>17}", c[number])).collect();
                 println!("{:>7}{row}", if number == 0 { "none".to_string() } else { number.to_string() });

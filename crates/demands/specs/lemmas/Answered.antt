@@ -12,14 +12,14 @@ use Rattle.fields.specs.Bytes.{byteAt, numberAt, fieldEnd, bodyOf}
 use Rattle.fields.specs.Verdict.{isRefused, first-refused, first-passed, firstFailing, askEach}
 use Rattle.fields.specs.declared.Verdict.the-variants.{Passed}
 use Rattle.junction.specs.declared.Junction.{Junction}
-use Rattle.questions.specs.Blank.{blank}
-use Rattle.questions.specs.Questions.{bodyVerdict, fieldVerdict, lacksCount, firstLacking, countsVerdict, wholeVerdict}
-use Rattle.reading.specs.Reading.{withField, afterField, readField, atEnd, readFrom, reading}
-use Rattle.plans.specs.Plans.{dueVerdict, cycleExpected, cycleInRange, cycleVerdict, greenExpected, greenInRange, greenVerdict, greensFrom, planVerdict, planOf}
-use Rattle.rules.specs.Rules.{needMet, capacityMet, zoneMet, rulesVerdict}
-use Rattle.judging.specs.Judgement.{planJudgement, judgement}
-use Rattle.working_out.specs.Cases.{file-verdict}
-use Rattle.working_out.specs.WorkingOut.{calculation, junctionVerdict, worked}
+use Rattle.junction_places.specs.Blank.{blank}
+use Rattle.junction_questions.specs.Questions.{bodyVerdict, fieldVerdict, lacksCount, firstLacking, countsVerdict, wholeVerdict}
+use Rattle.junction_file.specs.Reading.{withField, afterField, readField, atEnd, readFrom, reading}
+use Rattle.plan_file.specs.Plans.{dueVerdict, cycleExpected, cycleInRange, cycleVerdict, greenExpected, greenInRange, greenVerdict, greensFrom, planVerdict, planOf}
+use Rattle.plan_rules.specs.Rules.{needMet, capacityMet, zoneMet, rulesVerdict}
+use Rattle.plan_judge.specs.Judgement.{planJudgement, judgement}
+use Rattle.planner.specs.lemmas.Cases.{file-verdict}
+use Rattle.planner.specs.WorkingOut.{calculation, junctionVerdict, worked}
 use Rattle.demands.specs.Asked.{answer, answer-append, answer-each, answer-each-last}
 use Rattle.demands.specs.Questions.{fieldAsked, counted, wholeAsked, fieldsAsked, junctionAsked, dueAsked, greensAsked, planAsked, rulesAsked, calculationAsked, judgeAsked, workAsked}
 

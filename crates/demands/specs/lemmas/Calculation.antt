@@ -12,13 +12,13 @@ use Rattle.laws.specs.Ranges.{Between}
 use Rattle.laws.specs.Tests.{by-test, both}
 use Rattle.fields.specs.Verdict.{numberOf, isRefused, ask}
 use Rattle.fields.specs.declared.Verdict.the-variants.{Passed, Refused}
-use Rattle.reading.specs.Reading.{reading}
-use Rattle.reading.specs.Taken.{taken}
-use Rattle.plans.specs.Writing.{planSize, hasRoom, has-room, written}
-use Rattle.planning.specs.Planning.{ratios, firstTried, planAt, cycle, found}
-use Rattle.working_out.specs.Cases.{first-tried-range, found-cycle, cycle-works, file-verdict, worked-passed, buffer-passed, file-taken, lent-taken}
-use Rattle.working_out.specs.Demand2.{cycle-least, tried-bounds}
-use Rattle.working_out.specs.WorkingOut.{calculation, junctionVerdict, worked, buffer}
+use Rattle.junction_file.specs.Reading.{reading}
+use Rattle.junction_file.specs.TakenFile.{taken}
+use Rattle.plan_file.specs.Writing.{planSize, hasRoom, has-room, written}
+use Rattle.cycle_search.specs.Planning.{ratios, firstTried, planAt, cycle, found}
+use Rattle.planner.specs.lemmas.Cases.{first-tried-range, found-cycle, cycle-works, file-verdict, worked-passed, buffer-passed, file-taken, lent-taken}
+use Rattle.planner.specs.Demand2.{cycle-least, tried-bounds}
+use Rattle.planner.specs.WorkingOut.{calculation, junctionVerdict, worked, buffer}
 use Rattle.demands.specs.Files.{planBytes, Accepted, Result}
 use Rattle.demands.specs.lemmas.Works.{written-bytes, works-file}
 

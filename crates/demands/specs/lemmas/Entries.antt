@@ -11,9 +11,9 @@ use Rattle.laws.specs.Tests.{by-test}
 use Rattle.fields.specs.Verdict.{numberOf, placeOf, isRefused}
 use Rattle.fields.specs.declared.Verdict.{Verdict}
 use Rattle.fields.specs.declared.Verdict.the-variants.{Passed, Refused}
-use Rattle.reading.specs.Reading.{reading}
-use Rattle.working_out.specs.Cases.{file-taken, lent-refused, lent-taken, buffer-refused, worked-verdict}
-use Rattle.working_out.specs.WorkingOut.{worked, buffer}
+use Rattle.junction_file.specs.Reading.{reading}
+use Rattle.planner.specs.lemmas.Cases.{file-taken, lent-refused, lent-taken, buffer-refused, worked-verdict}
+use Rattle.planner.specs.WorkingOut.{worked, buffer}
 use Rattle.givendra.specs.Answers.{judgeAnswer, planAnswer, junctionAnswer, figure, intergreenAnswer, needAnswer, saturationAnswer, ratioAnswer}
 use Rattle.givendra.specs.LentList.{newestAnswer, newestFigure}
 use Rattle.givendra.specs.declared.CountRecord.{CountRecord}

@@ -8,9 +8,10 @@ use lib.Dec.{leb}
 use Rattle.fields.specs.Verdict.{numberOf, placeOf, ask, firstRefusal}
 use Rattle.fields.specs.declared.Verdict.{Verdict}
 use Rattle.fields.specs.declared.Verdict.the-variants.{Passed, Refused}
-use Rattle.questions.specs.Questions.{exists, countRefers}
-use Rattle.reading.specs.Reading.{reading}
-use Rattle.plans.specs.Plans.{cycleInRange}
+use Rattle.junction_questions.specs.Questions.{countRefers}
+use Rattle.junction_places.specs.Places.{exists}
+use Rattle.junction_file.specs.Reading.{reading}
+use Rattle.plan_file.specs.Plans.{cycleInRange}
 use Rattle.givendra.specs.Answers.{intergreenVerdict, needVerdict, carVerdict}
 use Rattle.givendra.specs.LentList.{listRank}
 use Rattle.givendra.specs.declared.CountRecord.{CountRecord}

@@ -13,13 +13,13 @@ use Rattle.laws.specs.Tests.{by-test}
 use Rattle.fields.specs.Verdict.{numberOf, placeOf, isRefused, firstRefusal, firstFailing, askEach, each-passed}
 use Rattle.fields.specs.declared.Verdict.{Verdict}
 use Rattle.fields.specs.declared.Verdict.the-variants.{Passed, Refused}
-use Rattle.fields.specs.Numbers.{Numbered}
-use Rattle.reading.specs.Numbers.{reading-numbered}
-use Rattle.reading.specs.Reading.{reading}
-use Rattle.plans.specs.Numbers.{plan-numbered}
-use Rattle.plans.specs.Plans.{planVerdict, planOf}
-use Rattle.rules.specs.Rules.{needMet, capacityMet, zoneMet, rulesVerdict}
-use Rattle.judging.specs.Judgement.{planJudgement, judgement}
+use Rattle.fields.specs.lemmas.Numbers.{Numbered}
+use Rattle.junction_file.specs.Numbers.{reading-numbered}
+use Rattle.junction_file.specs.Reading.{reading}
+use Rattle.plan_file.specs.lemmas.Numbers.{plan-numbered}
+use Rattle.plan_file.specs.Plans.{planVerdict, planOf}
+use Rattle.plan_rules.specs.Rules.{needMet, capacityMet, zoneMet, rulesVerdict}
+use Rattle.plan_judge.specs.Judgement.{planJudgement, judgement}
 use Rattle.demands.specs.Questions.{Formed, Every, FirstOf}
 
 module _ (holds : ℕ → Bool) (number n : ℕ) (later : Verdict) where

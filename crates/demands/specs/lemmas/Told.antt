@@ -14,16 +14,16 @@ use Rattle.fields.specs.Verdict.{isRefused, ask, firstRefusal, firstFailing, as
 use Rattle.fields.specs.declared.Verdict.{Verdict}
 use Rattle.fields.specs.declared.Verdict.the-variants.{Passed, Refused}
 use Rattle.junction.specs.declared.Junction.{Junction}
-use Rattle.questions.specs.Blank.{blank}
-use Rattle.questions.specs.Questions.{inOrder, lengthRight, inRange, withinLimit, refers, bodyVerdict, fieldVerdict, firstLacking, countsVerdict, whole, wholeVerdict}
-use Rattle.reading.specs.Reading.{afterField, readField, atEnd, readFrom, reading}
-use Rattle.plans.specs.Plans.{dueVerdict, cycleVerdict, greenVerdict, greensFrom, planVerdict, planOf}
-use Rattle.plans.specs.Writing.{hasRoom}
-use Rattle.rules.specs.Rules.{needMet, capacityMet, zoneMet, rulesVerdict}
-use Rattle.judging.specs.Judgement.{planJudgement, judgement}
-use Rattle.planning.specs.Planning.{ratios, cycle}
-use Rattle.working_out.specs.Cases.{file-verdict}
-use Rattle.working_out.specs.WorkingOut.{calculation, junctionVerdict, worked}
+use Rattle.junction_places.specs.Blank.{blank}
+use Rattle.junction_questions.specs.Questions.{inOrder, lengthRight, inRange, withinLimit, refers, bodyVerdict, fieldVerdict, firstLacking, countsVerdict, whole, wholeVerdict}
+use Rattle.junction_file.specs.Reading.{afterField, readField, atEnd, readFrom, reading}
+use Rattle.plan_file.specs.Plans.{dueVerdict, cycleVerdict, greenVerdict, greensFrom, planVerdict, planOf}
+use Rattle.plan_file.specs.Writing.{hasRoom}
+use Rattle.plan_rules.specs.Rules.{needMet, capacityMet, zoneMet, rulesVerdict}
+use Rattle.plan_judge.specs.Judgement.{planJudgement, judgement}
+use Rattle.cycle_search.specs.Planning.{ratios, cycle}
+use Rattle.planner.specs.lemmas.Cases.{file-verdict}
+use Rattle.planner.specs.WorkingOut.{calculation, junctionVerdict, worked}
 use Rattle.demands.specs.Places.{JunctionPlace, long, field, file, count, PlanPlace, fit, expected, range, need, capacity, zone}
 use Rattle.demands.specs.Places.{ratios-sum, no-cycle, no-room, JudgePlace, WorkPlace, of-junction, of-plan, of-calculation}
 

@@ -14,19 +14,19 @@ use Rattle.laws.specs.Ranges.{Between}
 use Rattle.laws.specs.Search.{firstBelow, first-passes, first-fails}
 use Rattle.laws.specs.Tests.{by-test, both, both-left, both-right}
 use Rattle.fields.specs.declared.Verdict.the-variants.{Passed}
-use Rattle.reading.specs.Reading.{reading}
-use Rattle.reading.specs.Taken.{taken}
-use Rattle.plans.specs.Inverse.{planFile}
-use Rattle.plans.specs.Writing.{planSize, planByte}
-use Rattle.plans.specs.declared.Plan.{Plan}
+use Rattle.junction_file.specs.Reading.{reading}
+use Rattle.junction_file.specs.TakenFile.{taken}
+use Rattle.plan_file.specs.Inverse.{planFile}
+use Rattle.plan_file.specs.Writing.{planSize, planByte}
+use Rattle.plan_file.specs.declared.Plan.{Plan}
 use Rattle.phase_lengths.specs.Phases.{lostTime}
 use Rattle.phase_lengths.specs.declared.Phases.{Phases}
-use Rattle.phase_greens.specs.Greens.{sharing, greenAt, firstShort, possible}
+use Rattle.phase_greens.specs.Greens.{sharing, greenAt, firstBelowOne, givesGreens}
 use Rattle.junction_phases.specs.JunctionPhases.{phasesAt}
-use Rattle.planning.specs.Lengths.{works-only}
-use Rattle.planning.specs.Planning.{planAt, works}
-use Rattle.judging.specs.Judgement.{planJudgement, judgement}
-use Rattle.working_out.specs.Planned.{works-accepted}
+use Rattle.cycle_search.specs.lemmas.Lengths.{works-only}
+use Rattle.cycle_search.specs.Planning.{planAt, works}
+use Rattle.plan_judge.specs.Judgement.{planJudgement, judgement}
+use Rattle.planner.specs.Planned.{works-accepted}
 use Rattle.demands.specs.Files.{fileOf, planBytes, Accepted}
 
 module _ (p : Plan) (streams : ℕ) where
@@ -68,9 +68,9 @@ module _ (p : Plan) (streams : ℕ) where
         let low : i < n = omega (arith, size) in
         getD-take n _ i 0 low ∙ filled-at (planByte p) lent n i 0 low room ∙ sym (file-byte i low))
 
-possible-means : (q : Phases) (t : ℕ) → (possible q t ≡ true) ↔ ((lostTime q ≤ t) × ((i : ℕ) → i < q .count → 1 ≤ greenAt q (sharing q t) i))
-unfolding possible firstShort
-possible-means q t =
+gives-greens-means : (q : Phases) (t : ℕ) → (givesGreens q t ≡ true) ↔ ((lostTime q ≤ t) × ((i : ℕ) → i < q .count → 1 ≤ greenAt q (sharing q t) i))
+unfolding givesGreens firstBelowOne
+gives-greens-means q t =
     let short : ℕ → Bool = λ i. ltb (greenAt q (sharing q t) i) 1 in
     let first = firstBelow short (q .count) 0 in (
       λ e. let all : q .count ≤ first = leb-true _ _ (both-right (leb (lostTime q) t) _ e) in (
@@ -97,10 +97,10 @@ module _ (junction : List ℕ) (is : reading junction .verdict ≡ Passed) where
       let room : n ≤ length zeros = omega (arith, length-replicate {A = ℕ} n 0) in
       let same = same-file (planAt j t) (j .held .streams) zeros room in (
         λ e. let p = works-only j t e .0 in
-            let means = possible-means (phasesAt j t) t .0 p in
+            let means = gives-greens-means (phasesAt j t) t .0 p in
             let judged = works-accepted j (taken junction is) t range p zeros room .0 e in
             record { notBelow = means .0; greens = means .1; accepted = judged-plan (planBytes junction t) ∙ (rw same at judged) },
         λ a. let judged : planJudgement j (planBytes junction t) ≡ Passed = sym (judged-plan (planBytes junction t)) ∙ a .accepted in
-            let p = possible-means (phasesAt j t) t .1 (a .notBelow, a .greens) in
+            let p = gives-greens-means (phasesAt j t) t .1 (a .notBelow, a .greens) in
             works-accepted j (taken junction is) t range p zeros room .1 (rw same judged),
       )

@@ -2,7 +2,7 @@
 use native.Mathlib.Omega.{arith}
 use borrow.Author.Needs.{needs}
 use borrow.Author.Tests.{eq-eqb, ne-eqb}
-use Rattle.flows.specs.Bounds.{straight-small, turning-small}
+use Rattle.flows.specs.lemmas.Bounds.{straight-small, turning-small}
 use Rattle.flows.specs.Saturation.{baseFlow}
 use Rattle.flows.proofs.base_flow.Statement.{statement}
 use Rattle.flows.proofs.base_flow.Tie as tie

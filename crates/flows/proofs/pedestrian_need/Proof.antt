@@ -23,7 +23,7 @@ returns : tie.Need-returns
 unfolding pedestrianNeed
 returns c =
     simp (
-      c .larger .ensures,
+      c .u64-larger .ensures,
       c .before .div-up .ensures,
       c .before .before .disturbance .ensures .same,
       c .before .before .before .before .crossing-speed .ensures .same,

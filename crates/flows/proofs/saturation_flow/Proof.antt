@@ -2,7 +2,7 @@
 use native.Mathlib.Nat.{div-lt-iff-lt-mul}
 use native.Mathlib.Omega.{arith}
 use borrow.Author.Needs.{needs}
-use Rattle.flows.specs.Bounds.{turn-positive, product-small}
+use Rattle.flows.specs.lemmas.Bounds.{turn-positive, product-small}
 use Rattle.flows.specs.Saturation.{saturationFlow}
 use Rattle.flows.proofs.saturation_flow.Statement.{statement}
 use Rattle.flows.proofs.saturation_flow.Tie as tie

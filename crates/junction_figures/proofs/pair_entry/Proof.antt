@@ -7,7 +7,7 @@ use native.Mathlib.Omega.{arith}
 use borrow.Author.Needs.{needs}
 use borrow.Author.Tests.{lt-ltb, le-ltb}
 use Rattle.laws.specs.Largest.{largestOf, largest-none, largest-next}
-use Rattle.questions.specs.Questions.{zoneAt}
+use Rattle.junction_places.specs.Places.{zoneAt}
 use Rattle.junction_figures.specs.Figures.{zoneEntry, pairEntry}
 use Rattle.junction_figures.proofs.pair_entry.Statement.{statement}
 use Rattle.junction_figures.proofs.pair_entry.Tie as tie
@@ -35,7 +35,7 @@ unfolding zoneEntry
 loop-again c =
     let l = c .before .before .before .before .loop in (
       omega arith,
-      simp (c .larger .ensures, c .before .zone-entry .ensures, here (c .before .before), c .before .before .before .before .before .stream-numbered2 .ensures, c .before .before .before .before .before .before .stream-numbered .ensures, l .inv .1, largest-next),
+      simp (c .u16-larger .ensures, c .before .zone-entry .ensures, here (c .before .before), c .before .before .before .before .before .stream-numbered2 .ensures, c .before .before .before .before .before .before .stream-numbered .ensures, l .inv .1, largest-next),
     )
 
 returns : tie.Need-returns Inv-loop μ-loop

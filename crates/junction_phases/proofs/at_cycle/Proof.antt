@@ -6,9 +6,9 @@ use native.Mathlib.Omega.{arith}
 use lib.ListN.{getD, replicate}
 use Rattle.laws.specs.Filled.{filled, filled-none, filled-next}
 use Rattle.phase_lengths.specs.Phases.{noPhase, phase}
-use Rattle.junction_phases.specs.JunctionPhases.{Need, largest, phaseCount, phasesAt, withNeed}
-use Rattle.junction_phases.specs.Tabled.{needs-tabled, stream-phases}
-use Rattle.junction_phases.specs.Placed.{few-phases, phases-filled, need-moved}
+use Rattle.junction_phases.specs.JunctionPhases.{phaseNeed, phaseCount, phasesAt, withNeed}
+use Rattle.junction_phases.specs.lemmas.Tabled.{needs-tabled, stream-phases}
+use Rattle.junction_phases.specs.lemmas.Placed.{few-phases, phases-filled, need-moved}
 use Rattle.junction_phases.proofs.at_cycle.Statement.{statement}
 use Rattle.junction_phases.proofs.at_cycle.Tie as tie
 
@@ -53,7 +53,7 @@ returns c =
     let j = s .args .j in
     let needs = c .before .before .before .needs-at in
     let count : s .args .q .count ≡ phaseCount j = ap (λ q. q .count) (s .pre .1) in
-    let need : (k : ℕ) → k < phaseCount j → getD (needs .result) k 0 ≡ largest j (Need (k + 1) (s .args .t)) =
+    let need : (k : ℕ) → k < phaseCount j → getD (needs .result) k 0 ≡ phaseNeed j (k + 1) (s .args .t) =
     λ k low. needs .ensures .each k (omega (arith, few-phases j)) ∙ needs-tabled j (s .pre .0) (s .args .t) (k + 1) in
     l .inv .1
     ∙ rw (le-antisymm (l .inv .0) (c .loop-test .left), count)

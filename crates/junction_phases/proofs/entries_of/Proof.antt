@@ -4,9 +4,9 @@ use Prim.Native.Nat.{_-_, _≤_}
 use native.Mathlib.Nat.{le-antisymm}
 use native.Mathlib.Omega.{arith}
 use lib.ListN.{getD}
-use Rattle.tables.specs.Tables.{noConflict}
-use Rattle.junction_phases.specs.ByPhase.{ByPhase, by-phase-none, by-phase-next}
-use Rattle.junction_phases.specs.Tabled.{entriesBy, ZonePhases, zone-raised}
+use Rattle.junction_tables.specs.Tables.{noConflict}
+use Rattle.junction_phases.specs.lemmas.ByPhase.{ByPhase, by-phase-none, by-phase-next}
+use Rattle.junction_phases.specs.lemmas.Tabled.{entriesBy, ZonePhases, zone-raised}
 use Rattle.junction_phases.proofs.entries_of.Statement.{statement}
 use Rattle.junction_phases.proofs.entries_of.Tie as tie
 
@@ -50,11 +50,11 @@ array-copy-out-b c = omega (arith, zone (c .before .before .before .before))
 sub-f : tie.Need-sub-f Inv-loop μ-loop
 sub-f c = zone (c .before .before .before .before .before .before) .phaseA .0
 
-mul-larger : tie.Need-mul-larger Inv-loop μ-loop
-mul-larger c = omega (arith, zone (c .before .before .before .before .before .before))
+mul-u32-larger : tie.Need-mul-u32-larger Inv-loop μ-loop
+mul-u32-larger c = omega (arith, zone (c .before .before .before .before .before .before))
 
-array-read-larger : tie.Need-array-read-larger Inv-loop μ-loop
-array-read-larger c = omega (arith, zone (c .before .before .before .before .before .before))
+array-read-u32-larger : tie.Need-array-read-u32-larger Inv-loop μ-loop
+array-read-u32-larger c = omega (arith, zone (c .before .before .before .before .before .before))
 
 onward-requires : tie.Need-onward-requires Inv-loop μ-loop
 onward-requires c κs = c .before .before .before .before .before .before .before .before .pre .1
@@ -68,11 +68,11 @@ array-write-entries c = omega (arith, zone (c .before .before .before .before .b
 sub-g : tie.Need-sub-g Inv-loop μ-loop
 sub-g c = zone (c .before .before .before .before .before .before .before .before .before) .phaseB .0
 
-mul-larger-2 : tie.Need-mul-larger-2 Inv-loop μ-loop
-mul-larger-2 c = omega (arith, zone (c .before .before .before .before .before .before .before .before .before))
+mul-u32-larger-2 : tie.Need-mul-u32-larger-2 Inv-loop μ-loop
+mul-u32-larger-2 c = omega (arith, zone (c .before .before .before .before .before .before .before .before .before))
 
-array-read-larger-2 : tie.Need-array-read-larger-2 Inv-loop μ-loop
-array-read-larger-2 c = omega (arith, zone (c .before .before .before .before .before .before .before .before .before))
+array-read-u32-larger-2 : tie.Need-array-read-u32-larger-2 Inv-loop μ-loop
+array-read-u32-larger-2 c = omega (arith, zone (c .before .before .before .before .before .before .before .before .before))
 
 onward-requires-2 : tie.Need-onward-requires-2 Inv-loop μ-loop
 onward-requires-2 c κs = c .before .before .before .before .before .before .before .before .before .before .before .pre .1
@@ -90,8 +90,8 @@ loop-again c =
     let first = c .before .before .before in (
       omega arith,
       by-phase-next _ (l .i) _
-          (zone-raised _ (l .entries) _ _ _ _ _ (l .inv .1) z (simp (first .larger .ensures, first .before .onward .ensures))
-          (simp (c .larger2 .ensures, c .before .onward2 .ensures))),
+          (zone-raised _ (l .entries) _ _ _ _ _ (l .inv .1) z (simp (first .u32-larger .ensures, first .before .onward .ensures))
+          (simp (c .u32-larger2 .ensures, c .before .onward2 .ensures))),
     )
 
 returns : tie.Need-returns Inv-loop μ-loop
@@ -101,6 +101,6 @@ pub entries-of-spec : {M : Type 1} → statement M
 entries-of-spec =
     tie.close
     (tie.spec Inv-loop μ-loop loop-holds mul-c element-copy-out-c (λ c. search needs) sub-a mul-a array-copy-out-a
-    (λ c. search needs) sub-b mul-b array-copy-out-b (λ c. search needs) sub-f mul-larger array-read-larger onward-requires
-    (λ c κs. tt) mul-entries array-write-entries (λ c. search needs) sub-g mul-larger-2 array-read-larger-2 onward-requires-2
+    (λ c. search needs) sub-b mul-b array-copy-out-b (λ c. search needs) sub-f mul-u32-larger array-read-u32-larger onward-requires
+    (λ c κs. tt) mul-entries array-write-entries (λ c. search needs) sub-g mul-u32-larger-2 array-read-u32-larger-2 onward-requires-2
     (λ c κs. tt) mul-entries-2 array-write-entries-2 (λ c. omega arith) (λ c. omega arith) loop-again returns)

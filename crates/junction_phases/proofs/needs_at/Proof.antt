@@ -6,9 +6,9 @@ use native.Mathlib.Omega.{arith}
 use borrow.Author.Needs.{needs}
 use lib.ListN.{getD}
 use Rattle.laws.specs.Ranges.{Between}
-use Rattle.questions.specs.Blank.{noStream}
-use Rattle.junction_phases.specs.ByPhase.{ByPhase, raised, by-phase-none, by-phase-next}
-use Rattle.junction_phases.specs.Tabled.{needsBy}
+use Rattle.junction_places.specs.Blank.{noStream}
+use Rattle.junction_phases.specs.lemmas.ByPhase.{ByPhase, raised, by-phase-none, by-phase-next}
+use Rattle.junction_phases.specs.lemmas.Tabled.{needsBy}
 use Rattle.junction_phases.proofs.needs_at.Statement.{statement}
 use Rattle.junction_phases.proofs.needs_at.Tie as tie
 
@@ -28,11 +28,11 @@ range c = c .before .before .pre .each (c .before .loop .i) (c .loop-test .taken
 sub-f : tie.Need-sub-f Inv-loop μ-loop
 sub-f c = range (c .before .before) .0
 
-mul-larger : tie.Need-mul-larger Inv-loop μ-loop
-mul-larger c = omega (arith, range (c .before .before))
+mul-u32-larger : tie.Need-mul-u32-larger Inv-loop μ-loop
+mul-u32-larger c = omega (arith, range (c .before .before))
 
-array-read-larger : tie.Need-array-read-larger Inv-loop μ-loop
-array-read-larger c = omega (arith, range (c .before .before))
+array-read-u32-larger : tie.Need-array-read-u32-larger Inv-loop μ-loop
+array-read-u32-larger c = omega (arith, range (c .before .before))
 
 mul-needs : tie.Need-mul-needs Inv-loop μ-loop
 mul-needs c = omega (arith, range (c .before .before .before .before))
@@ -44,7 +44,7 @@ loop-again : tie.Need-loop-again Inv-loop μ-loop
 loop-again c =
     let l = c .before .before .before .before .before .loop in (
       omega arith,
-      by-phase-next _ (l .i) _ (raised _ _ _ _ (l .needs) (l .inv .1) (range (c .before .before .before .before)) (simp (c .larger .ensures, c .before .need .ensures))),
+      by-phase-next _ (l .i) _ (raised _ _ _ _ (l .needs) (l .inv .1) (range (c .before .before .before .before)) (simp (c .u32-larger .ensures, c .before .need .ensures))),
     )
 
 returns : tie.Need-returns Inv-loop μ-loop
@@ -53,6 +53,6 @@ returns c = let l = c .before .loop in rw (le-antisymm (l .inv .0) (c .loop-test
 pub needs-at-spec : {M : Type 1} → statement M
 needs-at-spec =
     tie.close
-    (tie.spec Inv-loop μ-loop loop-holds (λ c. omega arith) (λ c. omega arith) (λ c. search needs) sub-f mul-larger
-    array-read-larger (λ c κs. tt) (λ c κs. tt) mul-needs array-write-needs (λ c. omega arith) (λ c. omega arith) loop-again
+    (tie.spec Inv-loop μ-loop loop-holds (λ c. omega arith) (λ c. omega arith) (λ c. search needs) sub-f mul-u32-larger
+    array-read-u32-larger (λ c κs. tt) (λ c κs. tt) mul-needs array-write-needs (λ c. omega arith) (λ c. omega arith) loop-again
     returns)

@@ -6,7 +6,7 @@ use native.Mathlib.Nat.{le-antisymm}
 use native.Mathlib.Omega.{arith}
 use lib.ListN.{getD}
 use Rattle.laws.specs.Largest.{largestOf, largest-none, largest-next}
-use Rattle.questions.specs.Blank.{noStream}
+use Rattle.junction_places.specs.Blank.{noStream}
 use Rattle.junction_phases.proofs.phase_count.Statement.{statement}
 use Rattle.junction_phases.proofs.phase_count.Tie as tie
 
@@ -26,7 +26,7 @@ array-copy-out-s : tie.Need-array-copy-out-s Inv-loop μ-loop
 array-copy-out-s c = omega (arith, c .before .before .pre)
 
 loop-again : tie.Need-loop-again Inv-loop μ-loop
-loop-again c = (omega arith, simp (c .larger .ensures, c .before .before .before .before .loop .inv .1, largest-next))
+loop-again c = (omega arith, simp (c .u32-larger .ensures, c .before .before .before .before .loop .inv .1, largest-next))
 
 returns : tie.Need-returns Inv-loop μ-loop
 returns c =

@@ -6,9 +6,9 @@ use native.Mathlib.Omega.{arith}
 use lib.ListN.{getD, replicate}
 use Rattle.laws.specs.Filled.{filled, filled-none, filled-next}
 use Rattle.phase_lengths.specs.Phases.{noPhase}
-use Rattle.junction_phases.specs.ByPhase.{by-phase-same}
-use Rattle.junction_phases.specs.Made.{phaseWith, phases-made}
-use Rattle.junction_phases.specs.Tabled.{count-tabled, needs-tabled, ratios-tabled, entries-tabled, stream-phases, zones-phases}
+use Rattle.junction_phases.specs.lemmas.ByPhase.{by-phase-same}
+use Rattle.junction_phases.specs.lemmas.Made.{phaseWith, phases-made}
+use Rattle.junction_phases.specs.lemmas.Tabled.{count-tabled, needs-tabled, ratios-tabled, entries-tabled, stream-phases, zones-phases}
 use Rattle.junction_phases.proofs.phases_at.Statement.{statement}
 use Rattle.junction_phases.proofs.phases_at.Tie as tie
 

@@ -5,9 +5,9 @@ use native.Mathlib.Nat.{le-antisymm}
 use native.Mathlib.Omega.{arith}
 use lib.ListN.{getD}
 use Rattle.laws.specs.Ranges.{Between}
-use Rattle.questions.specs.Blank.{noStream}
-use Rattle.junction_phases.specs.ByPhase.{ByPhase, raised, by-phase-none, by-phase-next}
-use Rattle.junction_phases.specs.Tabled.{ratiosBy}
+use Rattle.junction_places.specs.Blank.{noStream}
+use Rattle.junction_phases.specs.lemmas.ByPhase.{ByPhase, raised, by-phase-none, by-phase-next}
+use Rattle.junction_phases.specs.lemmas.Tabled.{ratiosBy}
 use Rattle.junction_phases.proofs.ratios_of.Statement.{statement}
 use Rattle.junction_phases.proofs.ratios_of.Tie as tie
 
@@ -27,11 +27,11 @@ range c = c .before .before .pre .each (c .before .loop .i) (c .loop-test .taken
 sub-f : tie.Need-sub-f Inv-loop μ-loop
 sub-f c = range (c .before .before) .0
 
-mul-larger : tie.Need-mul-larger Inv-loop μ-loop
-mul-larger c = omega (arith, range (c .before .before))
+mul-u32-larger : tie.Need-mul-u32-larger Inv-loop μ-loop
+mul-u32-larger c = omega (arith, range (c .before .before))
 
-array-read-larger : tie.Need-array-read-larger Inv-loop μ-loop
-array-read-larger c = omega (arith, range (c .before .before))
+array-read-u32-larger : tie.Need-array-read-u32-larger Inv-loop μ-loop
+array-read-u32-larger c = omega (arith, range (c .before .before))
 
 mul-ratios : tie.Need-mul-ratios Inv-loop μ-loop
 mul-ratios c = omega (arith, range (c .before .before .before .before .before))
@@ -43,7 +43,7 @@ loop-again : tie.Need-loop-again Inv-loop μ-loop
 loop-again c =
     let l = c .before .before .before .before .before .before .loop in (
       omega arith,
-      by-phase-next _ (l .i) _ (raised _ _ _ _ (l .ratios) (l .inv .1) (range (c .before .before .before .before .before)) (simp (c .larger .ensures, c .before .only .ensures, c .before .before .is-car .ensures))),
+      by-phase-next _ (l .i) _ (raised _ _ _ _ (l .ratios) (l .inv .1) (range (c .before .before .before .before .before)) (simp (c .u32-larger .ensures, c .before .only .ensures, c .before .before .is-car .ensures))),
     )
 
 returns : tie.Need-returns Inv-loop μ-loop
@@ -52,6 +52,6 @@ returns c = let l = c .before .loop in rw (le-antisymm (l .inv .0) (c .loop-test
 pub ratios-of-spec : {M : Type 1} → statement M
 ratios-of-spec =
     tie.close
-    (tie.spec Inv-loop μ-loop loop-holds (λ c. omega arith) (λ c. omega arith) (λ c. search needs) sub-f mul-larger
-    array-read-larger (λ c κs. tt) (λ c. omega arith) (λ c. omega arith) (λ c κs. tt) (λ c κs. tt) mul-ratios array-write-ratios
+    (tie.spec Inv-loop μ-loop loop-holds (λ c. omega arith) (λ c. omega arith) (λ c. search needs) sub-f mul-u32-larger
+    array-read-u32-larger (λ c κs. tt) (λ c. omega arith) (λ c. omega arith) (λ c κs. tt) (λ c κs. tt) mul-ratios array-write-ratios
     (λ c. omega arith) (λ c. omega arith) loop-again returns)

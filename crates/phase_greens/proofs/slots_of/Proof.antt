@@ -31,10 +31,10 @@ element-copy-out-p : tie.Need-element-copy-out-p Inv-loop μ-loop
 element-copy-out-p c = c .loop-test .taken
 
 add-start : tie.Need-add-start Inv-loop μ-loop
-add-start c = omega (arith, c .before .green-of .ensures .1)
+add-start c = omega (arith, c .before .green-by .ensures .1)
 
 add-start-2 : tie.Need-add-start-2 Inv-loop μ-loop
-add-start-2 c = omega (arith, c .before .green-of .ensures .1, c .before .before .before .before .loop .inv)
+add-start-2 c = omega (arith, c .before .green-by .ensures .1, c .before .before .before .before .loop .inv)
 
 add-before : tie.Need-add-before Inv-loop μ-loop
 add-before c = omega (arith, c .one .ensures .1, c .before .before .before .before .before .loop .inv)
@@ -45,11 +45,11 @@ loop-again c =
     let l = c .before .before .before .before .before .loop in
     let low = lt-ltb (l .i) 6 (c .before .before .before .before .loop-test .taken) in (
       omega arith,
-      omega (arith, c .before .before .green-of .ensures .1, l .inv),
-      simp (c .before .before .green-of .ensures .0, l .inv .2, l .inv .4, low, sum-next),
+      omega (arith, c .before .before .green-by .ensures .1, l .inv),
+      simp (c .before .before .green-by .ensures .0, l .inv .2, l .inv .4, low, sum-next),
       omega (arith, c .one .ensures .1, l .inv),
       simp (c .one .ensures .0, l .inv .4, low, sum-next),
-      simp (c .before .before .green-of .ensures .0, l .inv .2, l .inv .4, l .inv .5, low, filled-next),
+      simp (c .before .before .green-by .ensures .0, l .inv .2, l .inv .4, l .inv .5, low, filled-next),
     )
 
 returns : tie.Need-returns Inv-loop μ-loop

@@ -8,10 +8,10 @@ use Rattle.phase_lengths.proofs.first_length.Statement.{statement}
 use Rattle.phase_lengths.proofs.first_length.Tie as tie
 
 abbrev Inv-loop : tie.InvT-loop
-Inv-loop slow ratios lost t₀ t = (t ≤ 181) × (firstBelow (longEnough slow ratios lost) 181 t ≡ firstLength slow ratios lost)
+Inv-loop mixed ratios lost t₀ t = (t ≤ 181) × (firstBelow (longEnough mixed ratios lost) 181 t ≡ firstLength mixed ratios lost)
 
 abbrev μ-loop : tie.MeasureT-loop
-μ-loop slow ratios lost t₀ t = 181 - t
+μ-loop mixed ratios lost t₀ t = 181 - t
 
 loop-holds : tie.Need-loop-holds Inv-loop μ-loop
 unfolding firstLength

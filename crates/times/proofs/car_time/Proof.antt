@@ -26,7 +26,7 @@ returns : tie.Need-returns
 unfolding carTime
 returns c =
     record {
-      same = simp (c .larger .ensures);
+      same = simp (c .u64-larger .ensures);
       small = record { above = omega (arith, approach-small (c .before), amber-small (c .before)); below = omega arith };
     }
 

@@ -4,7 +4,7 @@ use mathlib.Core.Path.{subst}
 use native.Mathlib.Nat.{mul-le-mul}
 use native.Mathlib.Omega.{arith}
 use Rattle.times.specs.declared.Time.the-variants.{Root}
-use Rattle.times.specs.Bounds.{Small}
+use Rattle.times.specs.lemmas.Bounds.{TimeSmall}
 use Rattle.times.specs.Comparison.{rootWithin}
 use Rattle.times.proofs.root_within.Statement.{statement}
 use Rattle.times.proofs.root_within.Tie as tie
@@ -12,11 +12,11 @@ use Rattle.times.proofs.root_within.Tie as tie
 root-ratio-requires : tie.Need-root-ratio-requires
 root-ratio-requires c κs =
     let p = c .before .before .before .pre in
-    (p .0, (subst Small (c .before .reach .given .1) (p .1 .0), p .1 .1))
+    (p .0, (subst TimeSmall (c .before .reach .given .1) (p .1 .0), p .1 .1))
 
 -- the reaching root is small
-reaches : (c : tie.After-known-told2) → Small (Root (c .before .reach2 .given .0 .0) (c .before .reach2 .given .0 .1 .0) (c .before .reach2 .given .0 .1 .1 .0))
-reaches c = subst Small (c .before .reach2 .given .1) (c .before .before .before .pre .1 .0)
+reaches : (c : tie.After-known-told2) → TimeSmall (Root (c .before .reach2 .given .0 .0) (c .before .reach2 .given .0 .1 .0) (c .before .reach2 .given .0 .1 .1 .0))
+reaches c = subst TimeSmall (c .before .reach2 .given .1) (c .before .before .before .pre .1 .0)
 
 mul-root-root : tie.Need-mul-root-root
 mul-root-root c = omega (arith, mul-le-mul (c .before .before .before .pre .0 .above) (reaches c .below))

@@ -2,7 +2,7 @@
 use borrow.Author.Needs.{needs}
 use mathlib.Core.Path.{subst}
 use native.Mathlib.Omega.{arith}
-use Rattle.times.specs.Bounds.{Small}
+use Rattle.times.specs.lemmas.Bounds.{TimeSmall}
 use Rattle.times.specs.Comparison.{within}
 use Rattle.times.specs.declared.Time.the-variants.{Root}
 use Rattle.times.proofs.within.Statement.{statement}
@@ -11,11 +11,11 @@ use Rattle.times.proofs.within.Tie as tie
 ratio-within-requires : tie.Need-ratio-within-requires
 ratio-within-requires c κs =
     let p = c .before .before .before .pre in
-    (subst Small (c .before .leave .given .1) (p .0), (p .1 .0, omega arith))
+    (subst TimeSmall (c .before .leave .given .1) (p .0), (p .1 .0, omega arith))
 
 -- the leaving root is small
-leaves : (c : tie.After-known-told2) → Small (Root (c .before .leave2 .given .0 .0) (c .before .leave2 .given .0 .1 .0) (c .before .leave2 .given .0 .1 .1 .0))
-leaves c = subst Small (c .before .leave2 .given .1) (c .before .before .before .pre .0)
+leaves : (c : tie.After-known-told2) → TimeSmall (Root (c .before .leave2 .given .0 .0) (c .before .leave2 .given .0 .1 .0) (c .before .leave2 .given .0 .1 .1 .0))
+leaves c = subst TimeSmall (c .before .leave2 .given .1) (c .before .before .before .pre .0)
 
 add-root-within : tie.Need-add-root-within
 add-root-within c = omega (arith, leaves c)

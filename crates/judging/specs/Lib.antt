@@ -1,9 +1,0 @@
-pub mod Accepted
-pub mod Cycles
-pub mod Demand3
-pub mod FileDays
-pub mod Judgement
-pub mod Letter
-pub mod Long
-pub mod Meaning
-pub mod Numbers

@@ -1,0 +1,182 @@
+-- What a junction says after some of its fields, by the bytes of those fields.
+use Prim.Native.Nat.{ℕ, _+_, _-_, _≤_, _<_}
+use native.Mathlib.Omega.{arith}
+use mathlib.Core.Bool.{true, and-eq-true-iff, false≢true}
+use mathlib.Core.List.{List}
+use mathlib.Core.Logic.{_↔_}
+use mathlib.Core.Path.{_≡_, refl, sym, _∙_, ap}
+use lib.Dec.{eqb}
+use lib.ListN.{length, getD, set, length-set}
+use lib.Seq.{getD-set-same, getD-set-other}
+use borrow.Author.Tests.{eqb-true, eqb-false, ne-eqb, lt-ltb, ltb-true, le-leb, leb-true, not-true}
+use Rattle.laws.specs.Ranges.{Between}
+use Rattle.laws.specs.Tests.{by-test, both, both-left, both-right}
+use Rattle.fields.specs.Bytes.{byteAt}
+use Rattle.streams.specs.declared.Stream.{Stream}
+use Rattle.junction.specs.declared.Junction.{Junction}
+use Rattle.junction.specs.Layout.{designDay, kindOf, carOf, tramOf, pedestrianOf, cyclistOf, streamOf, countOf}
+use Rattle.limits.specs.Limits.{mostStreams, mostCounts}
+use Rattle.junction_places.specs.Blank.{noStream, noCount, blank}
+use Rattle.junction_questions.specs.Questions.{zoneRefers, countRefers}
+use Rattle.junction_places.specs.Places.{streamAt, countAt, streamNumbered, numbered-at, exists}
+use Rattle.streams.specs.Kinds.{isCar}
+use Rattle.junction_file.specs.Reading.{withHeading, withStream, withZone, withCount}
+use Rattle.junction_description.specs.File.{body}
+
+-- the heading, so many streams, zones and counts were read
+pub record Holds (s : List ℕ) (j : Junction) (streams zones counts : ℕ) : Type 0 where
+  pub streamsHeld : j .held .streams ≡ streams
+  pub zonesHeld : j .held .zones ≡ zones
+  pub countsHeld : j .held .counts ≡ counts
+  pub day : j .day ≡ designDay (body s 0)
+  pub streamPlaces : length (j .streams) ≡ mostStreams
+  pub countPlaces : length (j .counts) ≡ mostCounts
+  pub stream : (k : ℕ) → k < streams → streamAt j k ≡ streamOf (body s (k + 1))
+  pub count : (k : ℕ) → k < counts → countAt j k ≡ countOf (body s (streams + zones + k + 1))
+  -- the tag of the last field is that of the last sort of which there is one
+  pub some : Between 1 4 (j .held .last)
+  pub noZones : j .held .last ≤ 2 → zones ≡ 0
+  pub noCounts : j .held .last ≤ 3 → counts ≡ 0
+  pub atStreams : zones ≡ 0 → counts ≡ 0 → j .held .last ≤ 2
+  pub atZones : counts ≡ 0 → j .held .last ≤ 3
+
+-- one more set behind the first n
+set-places : {A : Type 0} (f : ℕ → A) (l : List A) (n : ℕ) (x d : A) → n < length l → ((i : ℕ) → i < n → getD l i d ≡ f i) → x ≡ f n
+    → (i : ℕ) → i < n + 1 → getD (set l n x) i d ≡ f i
+set-places f l n x d room old new i h =
+    by-test (eqb i n) (λ e. let same : i ≡ n = eqb-true _ _ e in rw (same, getD-set-same l n x d room) new)
+    (λ e. let differ = eqb-false _ _ e in getD-set-other l n i x d differ ∙ old i (omega arith))
+
+module _ (s : List ℕ) where
+  pub holds-heading : Holds s (withHeading (body s 0) blank) 0 0 0
+  unfolding withHeading
+  holds-heading =
+      record {
+        streamsHeld = refl;
+        zonesHeld = refl;
+        countsHeld = refl;
+        day = refl;
+        streamPlaces = refl;
+        countPlaces = refl;
+        stream = λ k h. absurd (omega arith);
+        count = λ k h. absurd (omega arith);
+        some = omega arith;
+        noZones = λ h. refl;
+        noCounts = λ h. refl;
+        atStreams = λ a b. omega arith;
+        atZones = λ a. omega arith;
+      }
+
+  pub holds-stream : (j : Junction) (n : ℕ) → Holds s j n 0 0 → n < 16 → Holds s (withStream (body s (n + 1)) j) (n + 1) 0 0
+  unfolding withStream streamAt
+  holds-stream j n r low =
+      record {
+        streamsHeld = ap (λ k. k + 1) (r .streamsHeld);
+        zonesHeld = r .zonesHeld;
+        countsHeld = r .countsHeld;
+        day = r .day;
+        streamPlaces = rw length-set (r .streamPlaces);
+        countPlaces = r .countPlaces;
+        stream = λ k h.
+            rw (lt-ltb k 16 (omega arith), r .streamsHeld)
+            (set-places (λ i. streamOf (body s (i + 1))) (j .streams) n _ noStream (omega (arith, r .streamPlaces))
+            (λ i l. rw (lt-ltb i 16 (omega arith)) at (r .stream i l)) refl k h);
+        count = λ k h. absurd (omega arith);
+        some = omega arith;
+        noZones = λ h. refl;
+        noCounts = λ h. refl;
+        atStreams = λ a b. omega arith;
+        atZones = λ a. omega arith;
+      }
+
+  pub holds-zone : (j : Junction) (n z : ℕ) (b : List ℕ) → Holds s j n z 0 → Holds s (withZone b j) n (z + 1) 0
+  unfolding withZone streamAt
+  holds-zone j n z b r =
+      record {
+        streamsHeld = r .streamsHeld;
+        zonesHeld = ap (λ k. k + 1) (r .zonesHeld);
+        countsHeld = r .countsHeld;
+        day = r .day;
+        streamPlaces = r .streamPlaces;
+        countPlaces = r .countPlaces;
+        stream = r .stream;
+        count = λ k h. absurd (omega arith);
+        some = omega arith;
+        noZones = λ h. absurd (omega arith);
+        noCounts = λ h. refl;
+        atStreams = λ a c. absurd (omega arith);
+        atZones = λ a. omega arith;
+      }
+
+  pub holds-count : (j : Junction) (n z c : ℕ) → Holds s j n z c → c < 128 → Holds s (withCount (body s (n + z + c + 1)) j) n z (c + 1)
+  unfolding withCount streamAt countAt
+  holds-count j n z c r low =
+      record {
+        streamsHeld = r .streamsHeld;
+        zonesHeld = r .zonesHeld;
+        countsHeld = ap (λ k. k + 1) (r .countsHeld);
+        day = r .day;
+        streamPlaces = r .streamPlaces;
+        countPlaces = rw length-set (r .countPlaces);
+        stream = r .stream;
+        count = λ k h.
+            rw (lt-ltb k 128 (omega arith), r .countsHeld)
+            (set-places (λ i. countOf (body s (n + z + i + 1))) (j .counts) c _ noCount (omega (arith, r .countPlaces))
+            (λ i l. rw (lt-ltb i 128 (omega arith)) at (r .count i l)) refl k h);
+        some = omega arith;
+        noZones = λ h. absurd (omega arith);
+        noCounts = λ h. absurd (omega arith);
+        atStreams = λ a b. absurd (omega arith);
+        atZones = λ a. absurd (omega arith);
+      }
+
+-- a stream is a car exactly where its kind is 1
+pub kind-car : (b : List ℕ) → (isCar (kindOf b) ≡ true) ↔ (byteAt b 0 ≡ 1)
+unfolding kindOf carOf tramOf pedestrianOf cyclistOf
+kind-car b =
+    by-test (eqb (byteAt b 0) 1) (λ e. rw e (λ t. eqb-true _ _ e, λ k. refl))
+    (λ n1. let other = eqb-false (byteAt b 0) 1 n1 in
+    by-test (eqb (byteAt b 0) 2) (λ e. rw (n1, e) (λ t. absurd (false≢true t), λ k. absurd (other k)))
+    (λ n2. by-test (eqb (byteAt b 0) 3) (λ e. rw (n1, n2, e) (λ t. absurd (false≢true t), λ k. absurd (other k)))
+    (λ n3. by-test (eqb (byteAt b 0) 4) (λ e. rw (n1, n2, n3, e) (λ t. absurd (false≢true t), λ k. absurd (other k)))
+    (λ n4. rw (n1, n2, n3, n4) (λ t. absurd (false≢true t), λ k. absurd (other k))))))
+
+module _ (s : List ℕ) (j : Junction) (streams zones counts : ℕ) (r : Holds s j streams zones counts) where
+  numbered : (n : ℕ) → Between 1 streams n → streamNumbered j n ≡ streamOf (body s n)
+  numbered n w =
+      let there : n - 1 + 1 ≡ n = omega arith in
+      numbered-at j n (w .0) ∙ r .stream (n - 1) (omega arith) ∙ ap (λ k. streamOf (body s k)) there
+
+  pub phase-is : (n : ℕ) → Between 1 streams n → streamNumbered j n .phase ≡ byteAt (body s n) 1
+  unfolding streamOf
+  phase-is n w = ap Stream.phase (numbered n w)
+
+  pub car-is : (n : ℕ) → Between 1 streams n → (isCar (streamNumbered j n .kind) ≡ true) ↔ (byteAt (body s n) 0 ≡ 1)
+  unfolding streamOf
+  car-is n w = rw (ap Stream.kind (numbered n w)) (kind-car (body s n))
+
+  exists-is : (n : ℕ) → (exists j n ≡ true) ↔ Between 1 streams n
+  unfolding exists
+  exists-is n = (
+    λ e. let facts = simp and-eq-true-iff at e in omega (arith, leb-true, r .streamsHeld),
+    λ w. both _ _ (le-leb 1 n (w .0)) (le-leb n _ (omega (arith, r .streamsHeld))),
+  )
+
+  pub zone-refers : (a b : ℕ)
+      → (zoneRefers j a b ≡ true)
+      ↔ (Between 1 streams a × Between 1 streams b × (a < b) × (byteAt (body s a) 1 ≡ byteAt (body s b) 1 → ⊥))
+  unfolding zoneRefers
+  zone-refers a b = (
+    λ e. let facts = simp and-eq-true-iff at e in
+        let wa = exists-is a .0 (facts .0 .0 .0) in
+        let wb = exists-is b .0 (facts .0 .0 .1) in
+        (wa, wb, ltb-true a b (facts .0 .1), λ same. eqb-false _ _ (not-true _ (facts .1)) (phase-is a wa ∙ same ∙ sym (phase-is b wb))),
+    λ w. simp (exists-is a .1 (w .0), exists-is b .1 (w .1), lt-ltb a b (w .2), phase-is a (w .0), phase-is b (w .1), ne-eqb _ _ (w .3)),
+  )
+
+  pub count-refers : (n : ℕ) → (countRefers j n ≡ true) ↔ (Between 1 streams n × (byteAt (body s n) 0 ≡ 1))
+  unfolding countRefers
+  count-refers n = (
+    λ e. let w = exists-is n .0 (both-left (exists j n) _ e) in (w, car-is n w .0 (both-right (exists j n) _ e)),
+    λ w. both _ _ (exists-is n .1 (w .0)) (car-is n (w .0) .1 (w .1)),
+  )

@@ -1,0 +1,6 @@
+pub mod ByPhase
+pub mod Made
+pub mod Placed
+pub mod Right
+pub mod Tabled
+pub mod Zones

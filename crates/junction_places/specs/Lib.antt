@@ -1,0 +1,4 @@
+pub mod Blank
+pub mod Places
+pub mod Ranks
+pub mod lemmas

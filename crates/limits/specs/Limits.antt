@@ -1,0 +1,33 @@
+-- The limits of junctions and plans (document 01, "The junction file" and "Judging a plan").
+use Prim.Native.Nat.{ℕ}
+
+-- a junction file has at most so many bytes, streams, zones and counts
+abbrev pub mostBytes : ℕ
+mostBytes = 16384
+
+abbrev pub mostStreams : ℕ
+mostStreams = 16
+
+abbrev pub mostZones : ℕ
+mostZones = 64
+
+abbrev pub mostCounts : ℕ
+mostCounts = 128
+
+-- phases have the numbers 1 to at most this
+abbrev pub mostPhases : ℕ
+mostPhases = 6
+
+-- a cycle has at most so many seconds; one more stands for none
+abbrev pub mostSeconds : ℕ
+mostSeconds = 180
+
+abbrev pub noCycle : ℕ
+noCycle = 181
+
+-- the flow of a count in E/h
+abbrev pub leastFlow : ℕ
+leastFlow = 1
+
+abbrev pub greatestFlow : ℕ
+greatestFlow = 9999

@@ -1,0 +1,5 @@
+pub mod Inverse
+pub mod Plans
+pub mod WellFormed
+pub mod Writing
+pub mod lemmas

@@ -1,0 +1,4 @@
+pub mod Left
+pub mod Long
+pub mod Numbers
+pub mod Passed

@@ -1,0 +1,242 @@
+-- A plan is accepted exactly when it is acceptable: each rule, asked of every stream or zone, is one of the three things.
+use Prim.Native.Nat.{ℕ, _+_, _-_, _*_, _≤_, _<_}
+use native.Mathlib.Omega.{arith}
+use mathlib.Core.Bool.{true, true≢false}
+use mathlib.Core.List.{List}
+use mathlib.Core.Logic.{_↔_, ⊎-elim, inl, inr}
+use mathlib.Core.Path.{_≡_, refl, sym, subst}
+use lib.Dec.{leb, eqb}
+use borrow.Author.Tests.{leb-true, le-leb, eqb-true, eq-eqb}
+use Rattle.laws.specs.Ranges.{Between}
+use Rattle.laws.specs.Tests.{by-test, both, both-left, both-right}
+use Rattle.fields.specs.Verdict.{both-passed, each-passed}
+use Rattle.fields.specs.declared.Verdict.the-variants.{Passed}
+use Rattle.junction.specs.declared.Junction.{Junction}
+use Rattle.junction.specs.declared.Zone.{Zone}
+use Rattle.junction_places.specs.Places.{streamNumbered, zoneAt, zoneNumbered, zone-numbered-at}
+use Rattle.streams.specs.Kinds.{isCar}
+use Rattle.junction_file.specs.Reading.{reading}
+use Rattle.junction_file.specs.Taken.{Taken}
+use Rattle.junction_file.specs.TakenFile.{taken}
+use Rattle.junction_figures.specs.Exact.{Clears, pair-exact}
+use Rattle.junction_figures.specs.Figures.{forward, backward, pairEntry, streamNeed, streamFlow, streamSaturation}
+use Rattle.plan_file.specs.Plans.{greenOf, planVerdict, planOf}
+use Rattle.plan_file.specs.WellFormed.{PlanRight, plan-right}
+use Rattle.plan_file.specs.declared.Green.{Green}
+use Rattle.plan_file.specs.declared.Plan.{Plan}
+use Rattle.plan_rules.specs.Rules.{off, needMet, enoughCapacity, capacityMet, zoneClear, zoneMet, rulesVerdict}
+use Rattle.plan_judge.specs.lemmas.Cycles.{all-cycles, Next, Again, next, again}
+use Rattle.plan_judge.specs.Judgement.{planJudgement, judgement}
+use Rattle.plan_judge.specs.Meaning.{begins, ends, LeavesInTime, Before, Apart, Acceptable}
+
+-- the first two things are the first two rules
+need-exact : (j : Junction) (p : Plan) (n : ℕ) → (needMet j p n ≡ true) ↔ (streamNeed j n (p .cycle) ≤ greenOf p n .length)
+unfolding needMet streamNeed
+need-exact j p n = (leb-true _ _, le-leb _ _)
+
+capacity-exact : (j : Junction) (p : Plan) (n : ℕ)
+    → (capacityMet j p n ≡ true)
+    ↔ (isCar (streamNumbered j n .kind) ≡ true → streamFlow j n * p .cycle ≤ streamSaturation j n * (greenOf p n .length + 1))
+unfolding capacityMet enoughCapacity
+capacity-exact j p n =
+    by-test (isCar (streamNumbered j n .kind))
+    (λ e. rw e (λ h car. leb-true _ _ h, λ h. le-leb _ _ (h refl)))
+    (λ e. rw e (λ h car. absurd (true≢false (sym car)), λ h. refl))
+
+clear-exact : (cycle : ℕ) (a b : Green) (x y : ℕ)
+    → (zoneClear cycle a b x y ≡ true) ↔ ((a .length + x ≤ off cycle (a .start) (b .start)) × (off cycle (a .start) (b .start) + b .length + y ≤ cycle))
+unfolding zoneClear
+clear-exact cycle a b x y =
+    let first = leb (a .length + x) (off cycle (a .start) (b .start)) in (
+      λ h. (leb-true _ _ (both-left first _ h), leb-true _ _ (both-right first _ h)),
+      λ h. both first _ (le-leb _ _ (h .0)) (le-leb _ _ (h .1)),
+    )
+
+forward-is : (n m : ℕ) (z : Zone) → forward n m z ≡ true → (z .a .stream ≡ n) × (z .b .stream ≡ m)
+unfolding forward
+forward-is n m z f = (eqb-true _ _ (both-left (eqb (z .a .stream) n) _ f), eqb-true _ _ (both-right (eqb (z .a .stream) n) _ f))
+
+backward-is : (n m : ℕ) (z : Zone) → backward n m z ≡ true → (z .b .stream ≡ n) × (z .a .stream ≡ m)
+unfolding backward
+backward-is n m z f = (eqb-true _ _ (both-left (eqb (z .b .stream) n) _ f), eqb-true _ _ (both-right (eqb (z .b .stream) n) _ f))
+
+same-number : (n : ℕ) → eqb n n ≡ true
+same-number n = eq-eqb n n refl
+
+module _ (j : Junction) (t : Taken j) (p : Plan) (r : PlanRight p (j .held .streams)) where
+  -- the rule of a zone with streams a and b
+  abbrev Rule : ℕ → ℕ → Type 0
+  Rule a b = zoneClear (p .cycle) (greenOf p a) (greenOf p b) (pairEntry j a b) (pairEntry j b a) ≡ true
+
+  -- a gap that is at least the pair's entry is enough at each of its zones
+  atob : (i : ℕ) → i < j .held .zones → (gap : ℕ) → pairEntry j (zoneAt j i .a .stream) (zoneAt j i .b .stream) ≤ gap
+      → LeavesInTime j (zoneAt j i .a) (zoneAt j i .b) gap
+  unfolding LeavesInTime Clears forward
+  atob i low gap h =
+      let z = zoneAt j i in
+      pair-exact j t (z .a .stream) (z .b .stream) gap .0 h i low .0
+      (both (eqb (z .a .stream) (z .a .stream)) _ (same-number (z .a .stream)) (same-number (z .b .stream)))
+
+  btoa : (i : ℕ) → i < j .held .zones → (gap : ℕ) → pairEntry j (zoneAt j i .b .stream) (zoneAt j i .a .stream) ≤ gap
+      → LeavesInTime j (zoneAt j i .b) (zoneAt j i .a) gap
+  unfolding LeavesInTime Clears backward
+  btoa i low gap h =
+      let z = zoneAt j i in
+      pair-exact j t (z .b .stream) (z .a .stream) gap .0 h i low .1
+      (both (eqb (z .b .stream) (z .b .stream)) _ (same-number (z .b .stream)) (same-number (z .a .stream)))
+
+  -- where the rule holds, the zone's greens are apart in every pair of cycles
+  rule-apart : (i : ℕ) → i < j .held .zones → Rule (zoneAt j i .a .stream) (zoneAt j i .b .stream) → (k m : ℕ) → Apart j p (zoneAt j i) k m
+  unfolding Apart Before begins ends
+  rule-apart i low h k m =
+      let z = zoneAt j i in
+      let right = t .fields .zones i low in
+      let a = greenOf p (z .a .stream) in
+      let b = greenOf p (z .b .stream) in
+      let rule = clear-exact (p .cycle) a b (pairEntry j (z .a .stream) (z .b .stream)) (pairEntry j (z .b .stream) (z .a .stream)) .0 h in
+      ⊎-elim
+      (λ (x : a .start + k * p .cycle + a .length + pairEntry j (z .a .stream) (z .b .stream) ≤ b .start + m * p .cycle).
+      inl (omega arith, atob i low _ (omega arith)))
+      (λ (x : b .start + m * p .cycle + b .length + pairEntry j (z .b .stream) (z .a .stream) ≤ a .start + k * p .cycle).
+      inr (omega arith, btoa i low _ (omega arith)))
+      (all-cycles (p .cycle) (a .start) (a .length) (b .start) (b .length) (r .start _ (right .a .existing)) (r .start _ (right .b .existing))
+      (r .length _ (right .a .existing) .0) (r .length _ (right .b .existing) .0) _ _ (rule .0) (rule .1) k m)
+
+  -- streams a and b: the pair of cycles in which b's green is the next after a's, and that in which a's is the next after b's
+  module _ (a b : ℕ) (inA : Between 1 (j .held .streams) a) (inB : Between 1 (j .held .streams) b) where
+    found : Next (p .cycle) (greenOf p a .start) (greenOf p a .length) (greenOf p b .start) (greenOf p b .length)
+    found = next (p .cycle) _ _ _ _ (r .start a inA) (r .start b inB) (r .length a inA .0) (r .length b inB .0)
+
+    back : Again (p .cycle) (greenOf p a .start) (greenOf p a .length) (greenOf p b .start) (greenOf p b .length)
+    back = again (p .cycle) _ _ _ _ (r .start a inA) (r .start b inB) (r .length a inA .0) (r .length b inB .0)
+
+    -- at each of their zones, off less a's length is enough from a to b, and what is left of the cycle from b to a
+    leaves-atob : (z : Zone) → z .a .stream ≡ a → z .b .stream ≡ b → Apart j p z (found .k) (found .m)
+        → LeavesInTime j (z .a) (z .b) (off (p .cycle) (greenOf p a .start) (greenOf p b .start) - greenOf p a .length)
+    unfolding Apart Before begins ends
+    leaves-atob z isA isB x =
+        ⊎-elim
+        (λ (h : Before j p (z .a) (z .b) (found .k) (found .m)). subst (LeavesInTime j (z .a) (z .b)) (rw (isA, isB) (found .gap)) (h .1))
+        (λ (h : Before j p (z .b) (z .a) (found .m) (found .k)). absurd (found .order (rw (isA, isB) at (h .0))))
+        x
+
+    leaves-btoa : (z : Zone) → z .a .stream ≡ a → z .b .stream ≡ b → Apart j p z (back .k) (back .m)
+        → LeavesInTime j (z .b) (z .a) (p .cycle - (off (p .cycle) (greenOf p a .start) (greenOf p b .start) + greenOf p b .length))
+    unfolding Apart Before begins ends
+    leaves-btoa z isA isB x =
+        ⊎-elim
+        (λ (h : Before j p (z .a) (z .b) (back .k) (back .m)). absurd (back .order (rw (isA, isB) at (h .0))))
+        (λ (h : Before j p (z .b) (z .a) (back .m) (back .k)). subst (LeavesInTime j (z .b) (z .a)) (rw (isA, isB) (back .gap)) (h .1))
+        x
+
+    -- and the greens fit between, as at one zone of theirs
+    room-atob : (z : Zone) → z .a .stream ≡ a → z .b .stream ≡ b → Apart j p z (found .k) (found .m)
+        → greenOf p a .length ≤ off (p .cycle) (greenOf p a .start) (greenOf p b .start)
+    unfolding Apart Before begins ends
+    room-atob z isA isB x =
+        ⊎-elim
+        (λ (h : Before j p (z .a) (z .b) (found .k) (found .m)). found .room (rw (isA, isB) at (h .0)))
+        (λ (h : Before j p (z .b) (z .a) (found .m) (found .k)). absurd (found .order (rw (isA, isB) at (h .0))))
+        x
+
+    room-btoa : (z : Zone) → z .a .stream ≡ a → z .b .stream ≡ b → Apart j p z (back .k) (back .m)
+        → off (p .cycle) (greenOf p a .start) (greenOf p b .start) + greenOf p b .length ≤ p .cycle
+    unfolding Apart Before begins ends
+    room-btoa z isA isB x =
+        ⊎-elim
+        (λ (h : Before j p (z .a) (z .b) (back .k) (back .m)). absurd (back .order (rw (isA, isB) at (h .0))))
+        (λ (h : Before j p (z .b) (z .a) (back .m) (back .k)). back .room (rw (isA, isB) at (h .0)))
+        x
+
+    -- where a is below b and the greens are apart at every zone in every pair of two cycles
+    module _ (below : a < b) (all : (i : ℕ) → i < j .held .zones → (k m : ℕ) → k < 2 → m < 2 → Apart j p (zoneAt j i) k m) where
+      -- the pair's entries are at most these
+      entry-atob : pairEntry j a b ≤ off (p .cycle) (greenOf p a .start) (greenOf p b .start) - greenOf p a .length
+      unfolding LeavesInTime Clears
+      entry-atob =
+          pair-exact j t a b _ .1
+          (λ i low. (
+            λ f. let is = forward-is a b (zoneAt j i) f in
+                leaves-atob (zoneAt j i) (is .0) (is .1) (all i low (found .k) (found .m) (found .kLow) (found .mLow)),
+            λ f. absurd (omega (arith, t .fields .zones i low .below, backward-is a b (zoneAt j i) f)),
+          ))
+
+      entry-btoa : pairEntry j b a ≤ p .cycle - (off (p .cycle) (greenOf p a .start) (greenOf p b .start) + greenOf p b .length)
+      unfolding LeavesInTime Clears
+      entry-btoa =
+          pair-exact j t b a _ .1
+          (λ i low. (
+            λ f. absurd (omega (arith, t .fields .zones i low .below, forward-is b a (zoneAt j i) f)),
+            λ f. let is = backward-is b a (zoneAt j i) f in
+                leaves-btoa (zoneAt j i) (is .1) (is .0) (all i low (back .k) (back .m) (back .kLow) (back .mLow)),
+          ))
+
+  -- where the greens are apart at every zone in every pair of two cycles, every zone's rule holds
+  apart-rule : ((i : ℕ) → i < j .held .zones → (k m : ℕ) → k < 2 → m < 2 → Apart j p (zoneAt j i) k m) → (i : ℕ) → i < j .held .zones
+      → Rule (zoneAt j i .a .stream) (zoneAt j i .b .stream)
+  apart-rule all i low =
+      let z = zoneAt j i in
+      let right = t .fields .zones i low in
+      let a = z .a .stream in
+      let b = z .b .stream in
+      let first = found a b (right .a .existing) (right .b .existing) in
+      let second = back a b (right .a .existing) (right .b .existing) in
+      let before = room-atob a b (right .a .existing) (right .b .existing) z refl refl (all i low (first .k) (first .m) (first .kLow) (first .mLow)) in
+      let after = room-btoa a b (right .a .existing) (right .b .existing) z refl refl (all i low (second .k) (second .m) (second .kLow) (second .mLow)) in
+      clear-exact (p .cycle) (greenOf p a) (greenOf p b) (pairEntry j a b) (pairEntry j b a) .1 (
+        omega (arith, before, entry-atob a b (right .a .existing) (right .b .existing) (right .below) all),
+        omega (arith, after, entry-btoa a b (right .a .existing) (right .b .existing) (right .below) all),
+      )
+
+  zones-exact : ((n : ℕ) → Between 1 (j .held .zones) n → zoneMet j p n ≡ true)
+      ↔ ((n zone : ℕ) → Between 1 (j .held .zones) zone → (k m : ℕ) → k < n → m < n → Apart j p (zoneNumbered j zone) k m)
+  unfolding zoneMet
+  zones-exact = (
+    λ met n zone w k m kLow mLow.
+        rw (zone-numbered-at j zone (w .0)) (rule-apart (zone - 1) (omega arith) (rw (zone-numbered-at j zone (w .0)) at (met zone w)) k m),
+    λ safe n w.
+        rw (zone-numbered-at j n (w .0))
+        (apart-rule
+        (λ i low k m kLow mLow. let there : i + 1 - 1 ≡ i = omega arith in
+        rw (zone-numbered-at j (i + 1) (omega arith), there) at (safe 2 (i + 1) (omega arith) k m kLow mLow))
+        (n - 1) (omega arith)),
+  )
+
+-- for any junction file that is taken and any plan file that is well-formed for it
+pub accepted-exactly : (junction plan : List ℕ) → reading junction .verdict ≡ Passed
+    → planVerdict plan (reading junction .junction .held .streams) ≡ Passed
+    → (judgement junction plan ≡ Passed) ↔ Acceptable (reading junction .junction) (planOf plan)
+unfolding judgement planJudgement rulesVerdict
+accepted-exactly junction plan isTaken isFormed =
+    let j = reading junction .junction in
+    let p = planOf plan in
+    let t = taken junction isTaken in
+    let zones = zones-exact j t p (plan-right plan (j .held .streams) isFormed (t .fields .fewStreams)) in
+    let needs = each-passed (needMet j p) 15 (j .held .streams) in
+    let capacities = each-passed (capacityMet j p) 16 (j .held .streams) in
+    let clear = each-passed (zoneMet j p) 17 (j .held .zones) Passed in
+    rw (isTaken, isFormed) (
+      λ e. let one = needs _ .0 e in
+          let two = capacities _ .0 (one .1) in
+          record {
+            needed = λ n w. need-exact j p n .0 (one .0 n w);
+            capacity = λ n w. capacity-exact j p n .0 (two .0 n w);
+            apart = zones .0 (clear .0 (two .1) .0);
+          },
+      λ s. needs _ .1 (
+        λ n w. need-exact j p n .1 (s .needed n w),
+        capacities _ .1 (λ n w. capacity-exact j p n .1 (s .capacity n w), clear .1 (zones .1 (s .apart), refl)),
+      ),
+    )
+
+pub accepted-whole : (junction plan : List ℕ)
+    → (judgement junction plan ≡ Passed)
+    ↔ ((reading junction .verdict ≡ Passed) × (planVerdict plan (reading junction .junction .held .streams) ≡ Passed)
+    × Acceptable (reading junction .junction) (planOf plan))
+unfolding judgement planJudgement
+accepted-whole junction plan = (
+  λ e. let taken = both-passed (reading junction .verdict) _ .0 e in
+      let formed = both-passed (planVerdict plan (reading junction .junction .held .streams)) _ .0 (taken .1) in
+      (taken .0, formed .0, accepted-exactly junction plan (taken .0) (formed .0) .0 e),
+  λ h. accepted-exactly junction plan (h .0) (h .1) .1 (h .2),
+)

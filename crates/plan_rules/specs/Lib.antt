@@ -1,0 +1,3 @@
+pub mod Off
+pub mod Rules
+pub mod lemmas

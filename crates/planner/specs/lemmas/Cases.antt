@@ -1,0 +1,93 @@
+-- What the answer and the buffer are where something is refused, and where nothing is; and that the cycle then works.
+use Prim.Native.Nat.{ℕ, _≤_, _<_}
+use mathlib.Core.Bool.{true, false}
+use mathlib.Core.List.{List}
+use mathlib.Core.Path.{_≡_, refl, sym, _∙_}
+use lib.Dec.{ltb}
+use lib.ListN.{length}
+use borrow.Author.Tests.{ltb-true}
+use Rattle.laws.specs.Ranges.{Between}
+use Rattle.laws.specs.Search.{first-range, first-passes}
+use Rattle.laws.specs.Tests.{by-test}
+use Rattle.fields.specs.Verdict.{ask-passed, isRefused, firstRefusal, first-refused, first-passed}
+use Rattle.fields.specs.declared.Verdict.the-variants.{Passed}
+use Rattle.junction.specs.declared.Junction.{Junction}
+use Rattle.phase_lengths.specs.First.{first-length-range}
+use Rattle.plan_file.specs.Writing.{hasRoom, written}
+use Rattle.cycle_search.specs.Planning.{ratios, firstTried, planAt, works, cycleFrom, cycle, found}
+use Rattle.junction_file.specs.Reading.{reading}
+use Rattle.planner.specs.WorkingOut.{calculation, junctionVerdict, junctionWorked, junctionBuffer, worked, buffer}
+use Rattle.planner.specs.declared.Worked.{Worked}
+
+-- T0 is from 1 to 181
+pub first-tried-range : (j : Junction) → Between 1 181 (firstTried j)
+unfolding firstTried
+first-tried-range j = first-length-range _ _ _
+
+pub found-cycle : (j : Junction) → found j (firstTried j) .cycle ≡ cycle j
+unfolding found cycle
+found-cycle j = refl
+
+-- a cycle that is found lies from T0 to 180, and works
+pub cycle-works : (j : Junction) → cycle j < 181 → (firstTried j ≤ cycle j) × (works j (cycle j) ≡ true)
+unfolding cycle cycleFrom
+cycle-works j low =
+    let first = first-tried-range j .1 in (first-range (works j) 181 (firstTried j) first .0, first-passes (works j) 181 (firstTried j) first low)
+
+module _ (j : Junction) (size : ℕ) where
+  pub cycle-found : junctionVerdict j size ≡ Passed → cycle j < 181
+  unfolding junctionVerdict calculation
+  cycle-found e = ltb-true _ _ (ask-passed (ltb (cycle j) 181) 22 0 _ (ask-passed (ltb (ratios j) 10000) 21 0 _ e .1) .0)
+
+  pub room-found : junctionVerdict j size ≡ Passed → hasRoom (j .held .streams) size ≡ true
+  unfolding junctionVerdict calculation
+  room-found e =
+      ask-passed (hasRoom (j .held .streams) size) 23 0 _ (ask-passed (ltb (cycle j) 181) 22 0 _ (ask-passed (ltb (ratios j) 10000) 21 0 _ e .1) .1) .0
+
+  pub worked-refused : isRefused (junctionVerdict j size) ≡ true → _≡_ {A = Worked} (record { verdict = junctionVerdict j size; cycle = 0; tried = 0 }) (junctionWorked j size)
+  unfolding junctionWorked
+  worked-refused e = rw e
+
+  pub worked-passed : isRefused (junctionVerdict j size) ≡ false
+      → _≡_ {A = Worked} (record { verdict = junctionVerdict j size; cycle = found j (firstTried j) .cycle; tried = found j (firstTried j) .tried }) (junctionWorked j size)
+  unfolding junctionWorked
+  worked-passed e = rw e
+
+module _ (j : Junction) (lent : List ℕ) where
+  pub buffer-refused : isRefused (junctionVerdict j (length lent)) ≡ true → lent ≡ junctionBuffer j lent
+  unfolding junctionBuffer
+  buffer-refused e = rw e
+
+  pub buffer-passed : isRefused (junctionVerdict j (length lent)) ≡ false → written (planAt j (cycle j)) (j .held .streams) lent ≡ junctionBuffer j lent
+  unfolding junctionBuffer
+  buffer-passed e = rw e
+
+module _ (junction : List ℕ) where
+  pub file-refused : (size : ℕ) → isRefused (reading junction .verdict) ≡ true
+      → _≡_ {A = Worked} (record { verdict = reading junction .verdict; cycle = 0; tried = 0 }) (worked junction size)
+  unfolding worked
+  file-refused size e = rw e
+
+  pub file-taken : (size : ℕ) → isRefused (reading junction .verdict) ≡ false → junctionWorked (reading junction .junction) size ≡ worked junction size
+  unfolding worked
+  file-taken size e = rw e
+
+  pub lent-refused : (lent : List ℕ) → isRefused (reading junction .verdict) ≡ true → lent ≡ buffer junction lent
+  unfolding buffer
+  lent-refused lent e = rw e
+
+  pub lent-taken : (lent : List ℕ) → isRefused (reading junction .verdict) ≡ false → junctionBuffer (reading junction .junction) lent ≡ buffer junction lent
+  unfolding buffer
+  lent-taken lent e = rw e
+
+-- the verdict of the answer, refused or not
+pub worked-verdict : (j : Junction) (size : ℕ) → junctionWorked j size .verdict ≡ junctionVerdict j size
+unfolding junctionWorked
+worked-verdict j size = by-test (isRefused (junctionVerdict j size)) (λ e. rw e) (λ e. rw e)
+
+pub file-verdict : (junction : List ℕ) (size : ℕ) → worked junction size .verdict ≡ firstRefusal (reading junction .verdict) (junctionVerdict (reading junction .junction) size)
+unfolding worked
+file-verdict junction size =
+    by-test (isRefused (reading junction .verdict))
+    (λ e. rw e (sym (first-refused (reading junction .verdict) _ e)))
+    (λ e. rw e (worked-verdict (reading junction .junction) size ∙ sym (first-passed (reading junction .verdict) _ e)))

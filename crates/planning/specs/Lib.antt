@@ -1,4 +1,0 @@
-pub mod Lengths
-pub mod Planned
-pub mod Planning
-pub mod Search

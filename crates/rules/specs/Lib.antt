@@ -1,3 +1,0 @@
-pub mod Off
-pub mod Rules
-pub mod Same

@@ -1,0 +1,10 @@
+-- The kinds of streams.
+use mathlib.Core.Bool.{Bool, true, false}
+use Rattle.streams.specs.declared.Kind.{Kind}
+use Rattle.streams.specs.declared.Kind.the-variants.{Car, Tram, Pedestrian, Cyclist}
+
+abbrev pub isCar : Kind → Bool
+isCar (Car c) = true
+isCar (Tram t) = false
+isCar (Pedestrian p) = false
+isCar (Cyclist y) = false

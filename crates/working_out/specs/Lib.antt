@@ -1,4 +1,0 @@
-pub mod Cases
-pub mod Demand2
-pub mod Planned
-pub mod WorkingOut
