@@ -5,6 +5,8 @@ ghost use mathlib.Core.Path.{_≡_};
 ghost use Prim.Native.Nat.{_≤_, max, min};
 ghost use lib.ListN.{getD};
 ghost use Rattle.laws.specs.Largest.{largestOf};
+ghost use Rattle.streams.specs.Kinds.{isCar};
+ghost use Rattle.flows.specs.Saturation.{flowRatio};
 ghost use Rattle.junction_places.specs.Blank.{noStream};
 ghost use Rattle.junction_file.specs.Taken.{Taken};
 ghost use Rattle.junction_tables.specs.Tables.{conflictsOf, loadsOf};
@@ -14,6 +16,7 @@ ghost use Rattle.junction_phases.specs.lemmas.Made.{phaseWith};
 ghost use Rattle.junction_phases.specs.lemmas.Tabled.{needsBy, ratiosBy, entriesBy, onward as onwardBy, StreamPhases, ZonesPhases};
 use junction::Junction;
 use junction_tables::Conflicts;
+use junction_tables::Load;
 use junction_tables::Loads;
 use laws::u32_larger;
 use limits::MOST_PHASES;
@@ -92,6 +95,16 @@ fn following(f: u8, count: usize) -> u8
     1
 }
 
+// The flow ratio of a car, 0 of another stream.
+fn car_ratio(s: Stream, load: Load) -> u32
+    ensures { λ r. ⌜ r ≡ cond (isCar (s .kind)) (flowRatio (load .flow) (load .saturation)) 0 ⌝ }
+{
+    only(
+        streams::is_car(s),
+        flows::flow_ratio(load.flow, load.saturation),
+    )
+}
+
 // The largest flow ratio of each phase's cars, by one pass over the streams.
 fn ratios_of(streams: [Stream; MOST_STREAMS], loads: Loads, n: usize) -> [u32; MOST_PHASES]
     requires { ⌜ StreamPhases streams n ⌝ }
@@ -102,7 +115,7 @@ fn ratios_of(streams: [Stream; MOST_STREAMS], loads: Loads, n: usize) -> [u32; M
     while i < n {
         let s = streams[i];
         let f = s.phase as usize - 1;
-        ratios[f] = u32_larger(ratios[f], only(streams::is_car(s), loads.of[i].ratio));
+        ratios[f] = u32_larger(ratios[f], car_ratio(s, loads.of[i]));
         i += 1;
     }
     ratios

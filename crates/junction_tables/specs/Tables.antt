@@ -8,12 +8,11 @@ use Rattle.laws.specs.Largest.{largestOf}
 use Rattle.streams.specs.declared.Stream.{Stream}
 use Rattle.counts.specs.Newest.{rankFlow}
 use Rattle.times.specs.Entry.{entry}
-use Rattle.flows.specs.Saturation.{flowRatio}
 use Rattle.limits.specs.Limits.{mostStreams, mostZones}
 use Rattle.junction.specs.declared.Junction.{Junction}
 use Rattle.junction.specs.declared.Zone.{Zone}
 use Rattle.junction_places.specs.Places.{zoneAt}
-use Rattle.junction_figures.specs.Figures.{zoneEntry, pairEntry, streamFlow, kindSaturation, streamSaturation, streamRatio}
+use Rattle.junction_figures.specs.Figures.{zoneEntry, pairEntry, streamFlow, kindSaturation, streamSaturation}
 use Rattle.junction_tables.specs.declared.Conflict.{Conflict}
 use Rattle.junction_tables.specs.declared.Conflicts.{Conflicts}
 use Rattle.junction_tables.specs.declared.Load.{Load}
@@ -63,19 +62,14 @@ conflictsOf j = record { of = filled (λ i. conflictOf j (zoneAt j i)) (replicat
 
 -- the load of a stream by the rank of its newest count
 abbrev pub loadBy : ℕ → Stream → Load
-loadBy r s =
-    record {
-      flow = rankFlow r;
-      saturation = kindSaturation (s .kind);
-      ratio = flowRatio (rankFlow r) (kindSaturation (s .kind));
-    }
+loadBy r s = record { flow = rankFlow r; saturation = kindSaturation (s .kind) }
 
 -- that of stream n
 abbrev pub loadOf : Junction → ℕ → Load
-loadOf j n = record { flow = streamFlow j n; saturation = streamSaturation j n; ratio = streamRatio j n }
+loadOf j n = record { flow = streamFlow j n; saturation = streamSaturation j n }
 
 abbrev pub noLoad : Load
-noLoad = record { flow = 0; saturation = 0; ratio = 0 }
+noLoad = record { flow = 0; saturation = 0 }
 
 unfoldable pub loadsOf : Junction → Loads
 loadsOf j = record { of = filled (λ i. loadOf j (i + 1)) (replicate mostStreams noLoad) (j .held .streams) }

@@ -23,11 +23,10 @@ pub struct Conflicts {
     pub of: [Conflict; MOST_ZONES],
 }
 
-// The flow of a stream and its saturation flow in E/h, 0 and 0 for a stream that is no car, and their ratio in ten-thousandths.
+// The flow of a stream and its saturation flow in E/h, 0 and 0 for a stream that is no car.
 pub struct Load {
     pub flow: u16,
     pub saturation: u32,
-    pub ratio: u32,
 }
 
 // Those of the streams in their order; the places after the last are empty.
@@ -115,7 +114,6 @@ fn no_load() -> Load
     Load {
         flow: 0,
         saturation: 0,
-        ratio: 0,
     }
 }
 
@@ -125,12 +123,7 @@ fn load_by(rank: u32, s: Stream) -> Load
 {
     let flow = counts::flow(rank);
     let saturation = junction_figures::saturation(s);
-    let ratio = flows::flow_ratio(flow, saturation);
-    Load {
-        flow,
-        saturation,
-        ratio,
-    }
+    Load { flow, saturation }
 }
 
 // The loads of a junction.

@@ -14,9 +14,13 @@ use Rattle.cycle_search.specs.Planning.{ratios, firstTried, planAt, cycle, foun
 use Rattle.planner.specs.declared.Worked.{Worked}
 use Rattle.limits.specs.Limits.{noCycle}
 
--- 21: is Y below 10,000? 22: is there a cycle? 23: does the lent buffer hold the plan file? Place 0
+-- 22: is there a cycle? 23: does the lent buffer hold the plan file? Place 0
+abbrev pub searched : ℕ → Bool → Verdict
+searched c room = ask (ltb c noCycle) 22 0 (ask room 23 0 Passed)
+
+-- before them 21: is Y below 10,000?
 unfoldable pub calculation : ℕ → ℕ → Bool → Verdict
-calculation y c room = ask (ltb y 10000) 21 0 (ask (ltb c noCycle) 22 0 (ask room 23 0 Passed))
+calculation y c room = ask (ltb y 10000) 21 0 (searched c room)
 
 -- of a junction that is taken, with a buffer of so many bytes
 unfoldable pub junctionVerdict : Junction → ℕ → Verdict

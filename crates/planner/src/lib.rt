@@ -7,7 +7,7 @@ ghost use Rattle.junction_file.specs.Taken.{Taken};
 ghost use Rattle.junction_phases.specs.JunctionPhases.{phasesAt};
 ghost use Rattle.plan_file.specs.Writing.{written};
 ghost use Rattle.cycle_search.specs.Planning.{planAt, works};
-ghost use Rattle.planner.specs.WorkingOut.{calculation, junctionWorked, junctionBuffer, worked, buffer as bufferAfter};
+ghost use Rattle.planner.specs.WorkingOut.{searched, junctionWorked, junctionBuffer, worked, buffer as bufferAfter};
 use fields::Verdict;
 use fields::ask;
 use junction::Junction;
@@ -48,10 +48,20 @@ fn work_out_junction(j: Junction, out: &mut [u8]) -> Worked
     let loads = junction_tables::loads_of(j);
     let conflicts = junction_tables::conflicts_of(j);
     let q = junction_phases::phases_at(j, loads, conflicts, 0);
+    let sums = phase_lengths::sums_of(q);
+    if 10000 <= sums.ratios {
+        return Worked {
+            verdict: Verdict::Refused {
+                number: 21,
+                place: 0,
+            },
+            cycle: 0,
+            tried: 0,
+        };
+    }
     let found = cycle_search::find_cycle(j, loads, conflicts, q);
     let room = plan_file::has_room(j.held.streams, out.len());
-    let sums = phase_lengths::sums_of(q);
-    let verdict = calculated(sums.ratios, found.cycle, room);
+    let verdict = calculated(found.cycle, room);
     if fields::refused(verdict) {
         return Worked {
             verdict,
@@ -67,12 +77,12 @@ fn work_out_junction(j: Junction, out: &mut [u8]) -> Worked
     }
 }
 
-fn calculated(ratios: u64, cycle: u16, room: bool) -> Verdict
-    ensures { λ r. ⌜ r ≡ calculation ratios cycle room ⌝ }
+// 22 and 23.
+fn calculated(cycle: u16, room: bool) -> Verdict
+    ensures { λ r. ⌜ r ≡ searched cycle room ⌝ }
 {
     let twenty_three = ask(room, 23, 0, Verdict::Passed);
-    let twenty_two = ask(cycle < NO_CYCLE, 22, 0, twenty_three);
-    ask(ratios < 10000, 21, 0, twenty_two)
+    ask(cycle < NO_CYCLE, 22, 0, twenty_three)
 }
 
 // Writes the plan of a length that works.

@@ -43,7 +43,7 @@ loop-again : tie.Need-loop-again Inv-loop μ-loop
 loop-again c =
     let l = c .before .before .before .before .before .before .loop in (
       omega arith,
-      by-phase-next _ (l .i) _ (raised _ _ _ _ (l .ratios) (l .inv .1) (range (c .before .before .before .before .before)) (simp (c .u32-larger .ensures, c .before .only .ensures, c .before .before .is-car .ensures))),
+      by-phase-next _ (l .i) _ (raised _ _ _ _ (l .ratios) (l .inv .1) (range (c .before .before .before .before .before)) (simp (c .u32-larger .ensures, c .before .car-ratio .ensures))),
     )
 
 returns : tie.Need-returns Inv-loop μ-loop
@@ -53,5 +53,5 @@ pub ratios-of-spec : {M : Type 1} → statement M
 ratios-of-spec =
     tie.close
     (tie.spec Inv-loop μ-loop loop-holds (λ c. omega arith) (λ c. omega arith) (λ c. search needs) sub-f mul-u32-larger
-    array-read-u32-larger (λ c κs. tt) (λ c. omega arith) (λ c. omega arith) (λ c κs. tt) (λ c κs. tt) mul-ratios array-write-ratios
+    array-read-u32-larger (λ c. omega arith) (λ c. omega arith) (λ c κs. tt) (λ c κs. tt) mul-ratios array-write-ratios
     (λ c. omega arith) (λ c. omega arith) loop-again returns)

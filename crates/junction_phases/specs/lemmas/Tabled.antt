@@ -12,6 +12,7 @@ use Rattle.laws.specs.Ranges.{Between}
 use Rattle.laws.specs.Tests.{by-test}
 use Rattle.streams.specs.declared.Stream.{Stream}
 use Rattle.flows.specs.Needs.{needAt}
+use Rattle.flows.specs.Saturation.{flowRatio}
 use Rattle.junction.specs.declared.Junction.{Junction}
 use Rattle.junction_places.specs.Blank.{noStream}
 use Rattle.junction_places.specs.Places.{streamNumbered, numbered-at, zoneAt, zone-numbered-at}
@@ -35,7 +36,7 @@ abbrev pub needsBy : List Stream → ℕ → ℕ → ℕ → ℕ
 needsBy streams t = largestIn streams (λ i. needAt t (getD streams i noStream))
 
 abbrev pub ratiosBy : List Stream → Loads → ℕ → ℕ → ℕ
-ratiosBy streams loads = largestIn streams (λ i. cond (isCar (getD streams i noStream .kind)) (getD (loads .of) i noLoad .ratio) 0)
+ratiosBy streams loads = largestIn streams (λ i. cond (isCar (getD streams i noStream .kind)) (flowRatio (getD (loads .of) i noLoad .flow) (getD (loads .of) i noLoad .saturation)) 0)
 
 -- the phase of the stream with a number, from 1
 abbrev phaseOf : List Stream → ℕ → ℕ
@@ -113,7 +114,7 @@ module _ (j : Junction) (taken : Taken j) where
   needs-tabled t f = figures-tabled _ (λ n. cond (isIn j f n) (streamNeed j n t) 0) (λ i low. rw (stream-place j taken i low))
 
   pub ratios-tabled : (f : ℕ) → ratiosBy (j .streams) (loadsOf j) (j .held .streams) f ≡ phaseRatio j f
-  unfolding phaseRatio isIn carIn
+  unfolding phaseRatio isIn carIn streamRatio
   ratios-tabled f =
       figures-tabled _ (λ n. cond (carIn j f n) (streamRatio j n) 0) (λ i low.
       rw (stream-place j taken i low, load-place j taken i low) (two-tests (eqb (streamNumbered j (i + 1) .phase) f) _ _))

@@ -5,18 +5,18 @@ use mathlib.Core.List.{List}
 use mathlib.Core.Path.{_≡_, refl, sym, _∙_}
 use lib.Dec.{ltb}
 use lib.ListN.{length}
-use borrow.Author.Tests.{ltb-true}
+use borrow.Author.Tests.{ltb-true, lt-ltb, le-ltb}
 use Rattle.laws.specs.Ranges.{Between}
 use Rattle.laws.specs.Search.{first-range, first-passes}
 use Rattle.laws.specs.Tests.{by-test}
 use Rattle.fields.specs.Verdict.{ask-passed, isRefused, firstRefusal, first-refused, first-passed}
-use Rattle.fields.specs.declared.Verdict.the-variants.{Passed}
+use Rattle.fields.specs.declared.Verdict.the-variants.{Passed, Refused}
 use Rattle.junction.specs.declared.Junction.{Junction}
 use Rattle.phase_lengths.specs.First.{first-length-range}
 use Rattle.plan_file.specs.Writing.{hasRoom, written}
 use Rattle.cycle_search.specs.Planning.{ratios, firstTried, planAt, works, cycleFrom, cycle, found}
 use Rattle.junction_file.specs.Reading.{reading}
-use Rattle.planner.specs.WorkingOut.{calculation, junctionVerdict, junctionWorked, junctionBuffer, worked, buffer}
+use Rattle.planner.specs.WorkingOut.{searched, calculation, junctionVerdict, junctionWorked, junctionBuffer, worked, buffer}
 use Rattle.planner.specs.declared.Worked.{Worked}
 
 -- T0 is from 1 to 181
@@ -43,6 +43,15 @@ module _ (j : Junction) (size : ℕ) where
   unfolding junctionVerdict calculation
   room-found e =
       ask-passed (hasRoom (j .held .streams) size) 23 0 _ (ask-passed (ltb (cycle j) 181) 22 0 _ (ask-passed (ltb (ratios j) 10000) 21 0 _ e .1) .1) .0
+
+  -- where Y is 10,000 or more the verdict is 21, and else that of what is asked after it
+  pub sum-refused : 10000 ≤ ratios j → junctionVerdict j size ≡ Refused 21 0
+  unfolding junctionVerdict calculation
+  sum-refused h = rw (le-ltb (ratios j) 10000 h)
+
+  pub sum-passed : ratios j < 10000 → junctionVerdict j size ≡ searched (cycle j) (hasRoom (j .held .streams) size)
+  unfolding junctionVerdict calculation
+  sum-passed h = rw (lt-ltb (ratios j) 10000 h)
 
   pub worked-refused : isRefused (junctionVerdict j size) ≡ true → _≡_ {A = Worked} (record { verdict = junctionVerdict j size; cycle = 0; tried = 0 }) (junctionWorked j size)
   unfolding junctionWorked
