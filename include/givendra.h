@@ -47,6 +47,7 @@ struct givendra_plan_answer {
     uint8_t refusal;
     uint16_t cycle; /* s */
     uint16_t tried; /* lengths tried, from the first up to the cycle */
+    size_t size;    /* bytes of the plan file */
 };
 
 struct givendra_junction_answer {

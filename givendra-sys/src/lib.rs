@@ -16,6 +16,7 @@ pub struct PlanAnswer {
     pub refusal: u8,
     pub cycle: u16,
     pub tried: u16,
+    pub size: usize,
 }
 
 #[repr(C)]

@@ -18,7 +18,7 @@ use Rattle.phase_greens.specs.declared.Slot.{Slot}
 use Rattle.junction_phases.specs.JunctionPhases.{hasPedestrianOrTram, phasesAt}
 use Rattle.plan_file.specs.declared.Green.{Green}
 use Rattle.plan_file.specs.declared.Plan.{Plan}
-use Rattle.plan_file.specs.Plans.{noGreen}
+use Rattle.plan_file.specs.Plans.{noGreen, noPlan}
 use Rattle.plan_rules.specs.Rules.{rulesVerdict}
 use Rattle.cycle_search.specs.declared.Found.{Found}
 use Rattle.limits.specs.Limits.{mostSeconds, noCycle}
@@ -85,6 +85,12 @@ cycleFrom j first = firstBelow (works j) noCycle first
 unfoldable pub cycle : Junction → ℕ
 cycle j = cycleFrom j (firstTried j)
 
--- what a search from a length answers: when it finds none, each length up to 180 was tried
+-- what a search from a length answers: the cycle; how many lengths were tried, each up to 180 where it finds none; and the cycle's plan, an
+-- empty one where it finds none
 unfoldable pub found : Junction → ℕ → Found
-found j first = record { cycle = cycleFrom j first; tried = min (cycleFrom j first) mostSeconds + 1 - first }
+found j first =
+    record {
+      cycle = cycleFrom j first;
+      tried = min (cycleFrom j first) mostSeconds + 1 - first;
+      plan = cond (ltb (cycleFrom j first) noCycle) (planAt j (cycleFrom j first)) noPlan;
+    }

@@ -20,10 +20,11 @@ use phase_lengths::Phases;
 use plan_file::Green;
 use plan_file::Plan;
 
-// The cycle, 181 where no length from the first to 180 works, and how many lengths were tried.
+// The cycle, 181 where no length from the first to 180 works; how many lengths were tried; and the cycle's plan, where there is a cycle.
 pub struct Found {
     pub cycle: u16,
     pub tried: u16,
+    pub plan: Plan,
 }
 
 // T0, the first length that is tried: the annex's optimum with trams at 10 s.
@@ -52,7 +53,7 @@ fn slot_green(slot: Slot) -> Green
 }
 
 // The plan of a length: every stream gets its phase's green.
-pub fn plan_at(j: Junction, q: Phases, slots: Slots, t: u16) -> Plan
+fn plan_at(j: Junction, q: Phases, slots: Slots, t: u16) -> Plan
     requires taken { ⌜ Taken j ⌝ }
     requires phases { ⌜ q ≡ phasesAt j t ⌝ }
     requires slots { ⌜ slots ≡ slotsOf q (sharing q t) ⌝ }
@@ -75,7 +76,7 @@ pub fn plan_at(j: Junction, q: Phases, slots: Slots, t: u16) -> Plan
 }
 
 // The least length from the first on that works: at least its lost time, every green 1 or more, and every rule met. The tests stand in the
-// loop, which is left from inside them at the first rule broken.
+// loop, which is left from inside them at the first rule broken; the plan that has passed them all is handed on.
 fn search(j: Junction, loads: Loads, conflicts: Conflicts, fixed: Phases, first: u16) -> Found
     requires taken { ⌜ Taken j ⌝ }
     requires loads { ⌜ loads ≡ loadsOf j ⌝ }
@@ -88,8 +89,10 @@ fn search(j: Junction, loads: Loads, conflicts: Conflicts, fixed: Phases, first:
     let zones = j.held.zones;
     let mut t = first;
     let mut tried: u16 = 0;
+    let mut p = plan_file::no_plan();
     let cycle = 'search: loop {
         if NO_CYCLE <= t {
+            p = plan_file::no_plan();
             break t;
         }
         tried += 1;
@@ -99,7 +102,7 @@ fn search(j: Junction, loads: Loads, conflicts: Conflicts, fixed: Phases, first:
             t += 1;
             continue 'search;
         }
-        let p = plan_at(j, q, slots, t);
+        p = plan_at(j, q, slots, t);
         let mut n: usize = 0;
         while n < streams {
             if !plan_rules::need_met(j.streams[n], p.greens[n], p.cycle) {
@@ -129,7 +132,11 @@ fn search(j: Junction, loads: Loads, conflicts: Conflicts, fixed: Phases, first:
         }
         break t;
     };
-    Found { cycle, tried }
+    Found {
+        cycle,
+        tried,
+        plan: p,
+    }
 }
 
 // The cycle of a junction that is taken, by its phases with trams at 10 s.

@@ -21,8 +21,8 @@ use Rattle.flows.specs.Needs.{longestCycle, crossingSpeed, disturbance, kindNee
 use Rattle.flows.specs.Saturation.{saturationFlow}
 use Rattle.flows.specs.Meaning.{tram-once, tram-twice, pedestrian-least, numerator, denominator, saturation-greatest}
 use Rattle.junction.specs.declared.Junction.{Junction}
-use Rattle.junction_questions.specs.Questions.{countRefers}
-use Rattle.junction_places.specs.Places.{streamNumbered, numbered-at, zoneAt, exists}
+use Rattle.junction_questions.specs.Questions.{carRefers, countRefers}
+use Rattle.junction_places.specs.Places.{streamNumbered, numbered, numbered-at, zoneAt, exists}
 use Rattle.junction_file.specs.Reading.{reading}
 use Rattle.junction_file.specs.TakenFile.{taken}
 use Rattle.junction_description.specs.File.{FlowOf}
@@ -91,7 +91,7 @@ module _ (junction : List ℕ) (is : reading junction .verdict ≡ Passed) where
 
   -- a car's number is 1 or more, and at most the number of streams
   car-number : (n : ℕ) → countRefers (junctionOf junction) n ≡ true → (1 ≤ n) × (n ≤ junctionOf junction .held .streams)
-  unfolding countRefers exists
+  unfolding countRefers carRefers numbered
   car-number n one =
       let there = both-left (leb 1 n && leb n (junctionOf junction .held .streams)) _ one in
       (leb-true _ _ (both-left (leb 1 n) _ there), leb-true _ _ (both-right (leb 1 n) _ there))

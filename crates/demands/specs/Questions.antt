@@ -11,7 +11,7 @@ use Rattle.fields.specs.Bytes.{byteAt, numberAt, fieldEnd, fits, bodyOf}
 use Rattle.fields.specs.declared.Verdict.the-variants.{Passed}
 use Rattle.junction.specs.declared.Junction.{Junction}
 use Rattle.junction_places.specs.Blank.{blank}
-use Rattle.junction_questions.specs.Questions.{inOrder, lengthRight, inRange, withinLimit, refers, countRefers, lacksCount, whole}
+use Rattle.junction_questions.specs.Questions.{inOrder, lengthRight, inRange, withinLimit, refers, namedBy, countRefers, lacksCount, whole}
 use Rattle.junction_places.specs.Places.{exists}
 use Rattle.junction_file.specs.Reading.{withField, reading}
 use Rattle.plan_file.specs.Plans.{cycleExpected, cycleInRange, greenExpected, greenInRange, planVerdict, planOf}
@@ -32,7 +32,7 @@ fieldAsked s at j =
     ∷ question 4 at (lengthRight (byteAt s at) (bodyOf s at))
     ∷ question 5 at (inRange (byteAt s at) (bodyOf s at))
     ∷ question 6 at (withinLimit (byteAt s at) (j .held))
-    ∷ question 7 at (refers (byteAt s at) j (bodyOf s at)) ∷ []
+    ∷ question 7 at (refers (byteAt s at) (j .held .streams) (bodyOf s at) (namedBy j (bodyOf s at) 0) (namedBy j (bodyOf s at) 1)) ∷ []
 
 -- stream n is no car or has a usable count
 unfoldable pub counted : Junction → ℕ → Bool

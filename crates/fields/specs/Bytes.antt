@@ -6,8 +6,8 @@ use mathlib.Core.Bool.{Bool, true, _&&_}
 use mathlib.Core.List.{List}
 use mathlib.Core.Path.{_≡_, ap}
 use lib.Dec.{leb}
-use borrow.Author.Tests.{leb-true}
-use Rattle.laws.specs.Tests.{both-left, both-right}
+use borrow.Author.Tests.{leb-true, leb-false, lt-leb}
+use Rattle.laws.specs.Tests.{by-test, both-left, both-right}
 use lib.ListN.{length, getD, take, drop, List·getD-eq-default}
 
 -- the byte at a place, 0 past the end
@@ -52,6 +52,13 @@ fits-within s at t =
 pub field-long : (s : List ℕ) (at : ℕ) → at + 3 ≤ fieldEnd s at
 unfolding fieldEnd
 field-long s at = le-add-right (at + 3) _
+
+-- a field fits exactly where its end lies within the file
+pub fits-end : (s : List ℕ) (at : ℕ) → leb (fieldEnd s at) (length s) ≡ fits s at
+unfolding fits
+fits-end s at =
+    by-test (leb (at + 3) (length s)) (λ e. rw e)
+    (λ e. rw (e, lt-leb (fieldEnd s at) (length s) (omega (arith, leb-false (at + 3) (length s) e, field-long s at))))
 
 -- the body is the part of the file from after the three bytes to the field's end
 pub body-part : (s : List ℕ) (at : ℕ) → take (fieldEnd s at - (at + 3)) (drop (at + 3) s) ≡ bodyOf s at

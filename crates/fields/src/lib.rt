@@ -3,7 +3,7 @@ ghost use mathlib.Core.Path.{_≡_};
 ghost use Prim.Native.Nat.{_≤_, _<_};
 ghost use lib.ListN.{length};
 ghost use Rattle.fields.specs.Verdict.{ask as askOf, isRefused, firstRefusal};
-ghost use Rattle.fields.specs.Bytes.{byteAt, numberAt, byteIn, numberIn, fieldEnd, fits as fitsAt};
+ghost use Rattle.fields.specs.Bytes.{byteAt, numberAt, byteIn, numberIn, fieldEnd};
 
 // What the questions in order give: no refusal, or the first one with its number and place.
 pub enum Verdict {
@@ -77,18 +77,10 @@ pub fn number_in(s: &[u8], at: usize, low: u16, high: u16) -> bool
     (low <= x) & (x <= high)
 }
 
-// Where the field at a place ends.
+// Where the field at a place ends: it fits the file where that is no more than the file's length.
 pub fn field_end(s: &[u8], at: usize) -> usize
     requires { ⌜ at ≤ length (now s) ⌝ }
     ensures { λ r. ⌜ r ≡ fieldEnd (now (s .entry)) at ⌝ }
 {
     at + 3 + number(s, at + 1) as usize
-}
-
-// Whether the three bytes and the body of the field at a place fit the file.
-pub fn fits(s: &[u8], at: usize) -> bool
-    requires { ⌜ at ≤ length (now s) ⌝ }
-    ensures { λ r. ⌜ r ≡ fitsAt (now (s .entry)) at ⌝ }
-{
-    (at + 3 <= s.len()) & (field_end(s, at) <= s.len())
 }

@@ -34,6 +34,7 @@ planAnswer junction size =
       refusal = numberOf (worked junction size .verdict);
       cycle = worked junction size .cycle;
       tried = worked junction size .tried;
+      size = worked junction size .size;
     }
 
 -- a number of the junction, 0 where the file is refused

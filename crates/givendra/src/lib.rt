@@ -17,13 +17,14 @@ pub struct JudgeAnswer {
     pub refusal: u8,
 }
 
-// The cycle in seconds, and how many lengths were tried.
+// The cycle in seconds, how many lengths were tried, and how many bytes the plan file has.
 #[repr(C)]
 pub struct PlanAnswer {
     pub place: usize,
     pub refusal: u8,
     pub cycle: u16,
     pub tried: u16,
+    pub size: usize,
 }
 
 // What a junction file holds.
@@ -85,12 +86,14 @@ pub extern "C" fn givendra_work_out(junction: &[u8], buffer: &mut [u8]) -> PlanA
             refusal: 0,
             cycle: worked.cycle,
             tried: worked.tried,
+            size: worked.size,
         },
         Verdict::Refused { number, place } => PlanAnswer {
             place,
             refusal: number,
             cycle: worked.cycle,
             tried: worked.tried,
+            size: worked.size,
         },
     }
 }

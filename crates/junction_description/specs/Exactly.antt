@@ -21,7 +21,7 @@ use Rattle.junction.specs.declared.Junction.{Junction}
 use Rattle.junction.specs.Layout.{streamOf, countOf, countInRange}
 use Rattle.junction_places.specs.Blank.{blank}
 use Rattle.junction_questions.specs.lemmas.Passed.{BodyPassed}
-use Rattle.junction_questions.specs.Questions.{inOrder, lengthRight, inRange, withinLimit, refers, bodyVerdict, fieldVerdict, phaseUsed, phaseFollows, phasesRight, carAt, firstCar, lacksCount, firstLacking, countsVerdict, whole, wholeVerdict}
+use Rattle.junction_questions.specs.Questions.{inOrder, lengthRight, inRange, withinLimit, refers, countRefers, bodyVerdict, fieldVerdict, phaseUsed, phaseFollows, phasesRight, carAt, firstCar, lacksCount, firstLacking, countsVerdict, whole, wholeVerdict}
 use Rattle.junction_places.specs.Places.{streamAt, countAt}
 use Rattle.streams.specs.Kinds.{isCar}
 use Rattle.junction_places.specs.Ranks.{newestRank}
@@ -227,7 +227,7 @@ module _ (s : List ℕ) where
 
     count-step : (k : ℕ) → k < c → (j : Junction) → Passes s (n + z + k + 1) j → Part s j n z k
         → (x : Junction) × Passes s (n + z + k + 1 + 1) x × Part s x n z (k + 1)
-    unfolding withField lengthRight inRange withinLimit refers
+    unfolding withField lengthRight inRange withinLimit refers countRefers
     count-step k low j p r =
         let i = n + z + k + 1 in
         let place-is : n + z + (k + 1) ≡ i = omega arith in

@@ -15,8 +15,8 @@ use Rattle.fields.specs.declared.Verdict.the-variants.{Passed}
 use Rattle.junction.specs.declared.Junction.{Junction}
 use Rattle.junction.specs.Layout.{countInRange, countOf}
 use Rattle.junction_places.specs.Blank.{blank}
-use Rattle.junction_questions.specs.lemmas.Passed.{body-passed, field-passed}
-use Rattle.junction_questions.specs.Questions.{lengthRight, inRange, refers, bodyVerdict, fieldVerdict}
+use Rattle.junction_questions.specs.lemmas.Passed.{field-passed}
+use Rattle.junction_questions.specs.Questions.{lengthRight, inRange, refers, bodyVerdict, namedBy, fieldVerdict}
 use Rattle.junction_file.specs.Reading.{withCount, withField, afterField, readField, readFrom, reading}
 use Rattle.junction_file.specs.lemmas.Rest.{passed-field}
 
@@ -60,7 +60,8 @@ record SameCount (b c : List ℕ) : Type 0 where
   day : numberAt b 1 ≡ numberAt c 1
   flow : numberAt b 5 ≡ numberAt c 5
 
-count-verdict-same : (b c : List ℕ) (at : ℕ) (j : Junction) → SameCount b c → bodyVerdict 4 b at j ≡ bodyVerdict 4 c at j
+count-verdict-same : (b c : List ℕ) (at : ℕ) (j : Junction) → SameCount b c
+    → bodyVerdict 4 b at (j .held) (namedBy j b 0) (namedBy j b 1) ≡ bodyVerdict 4 c at (j .held) (namedBy j c 0) (namedBy j c 1)
 unfolding bodyVerdict lengthRight inRange countInRange numberIn refers
 count-verdict-same b c at j e = rw (e .long, e .stream, e .flow)
 
@@ -139,7 +140,7 @@ module _ (fuel : ℕ) (s t : List ℕ) (at : ℕ) (a : Alike (suc fuel) s t at) 
   count-ends : (j : Junction) → fieldVerdict s at j ≡ Passed → byteAt s at ≡ 4 → at + 10 ≤ fieldEnd s at
   unfolding fieldEnd lengthRight
   count-ends j p e =
-      let passed = body-passed _ _ at j (field-passed s at j p .1) in
+      let passed = field-passed s at j p .1 in
       let seven = eqb-true (length (bodyOf s at)) 7 (rw e at (passed .long)) in
       omega (arith, body-short s at)
 

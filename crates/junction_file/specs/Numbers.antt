@@ -13,7 +13,7 @@ use Rattle.fields.specs.Verdict.{numberOf, isRefused}
 use Rattle.fields.specs.declared.Verdict.the-variants.{Passed}
 use Rattle.junction.specs.declared.Junction.{Junction}
 use Rattle.junction_places.specs.Blank.{blank}
-use Rattle.junction_questions.specs.Questions.{inOrder, lengthRight, inRange, withinLimit, refers, bodyVerdict, fieldVerdict, firstLacking, countsVerdict, whole, wholeVerdict}
+use Rattle.junction_questions.specs.Questions.{inOrder, lengthRight, inRange, withinLimit, refers, bodyVerdict, namedBy, fieldVerdict, firstLacking, countsVerdict, whole, wholeVerdict}
 use Rattle.junction_file.specs.Reading.{afterField, readField, atEnd, readFrom, reading}
 
 field-numbered : (s : List ℕ) (at : ℕ) (j : Junction) → Numbered 9 (fieldVerdict s at j)
@@ -26,7 +26,7 @@ field-numbered s at j =
     (ask-numbered 9 (lengthRight tag b) 4 at _ (omega arith)
     (ask-numbered 9 (inRange tag b) 5 at _ (omega arith)
     (ask-numbered 9 (withinLimit tag (j .held)) 6 at _ (omega arith)
-    (ask-numbered 9 (refers tag j b) 7 at Passed (omega arith) tt)))))
+    (ask-numbered 9 (refers tag (j .held .streams) b (namedBy j b 0) (namedBy j b 1)) 7 at Passed (omega arith) tt)))))
 
 end-numbered : (size : ℕ) (j : Junction) → Numbered 9 (atEnd size j .verdict)
 unfolding atEnd wholeVerdict countsVerdict

@@ -1,3 +1,4 @@
 pub mod Fields
 pub mod Named
+pub mod Places
 pub mod Rest

@@ -1,13 +1,7 @@
 // Reads a junction file: a junction, or the first refusal of document 01's questions 1 to 9.
-ghost use mathlib.Core.Bool.{true};
 ghost use mathlib.Core.Path.{_≡_};
-ghost use Prim.Native.Nat.{_<_};
 ghost use lib.ListN.{length};
-ghost use Rattle.fields.specs.Bytes.{byteAt, fits, bodyOf};
-ghost use Rattle.junction.specs.declared.Junction.{Junction};
 ghost use Rattle.junction_places.specs.Blank.{blank as blankOf};
-ghost use Rattle.junction_questions.specs.lemmas.Parts.{Names};
-ghost use Rattle.junction_questions.specs.Questions.{fieldVerdict};
 ghost use Rattle.junction_file.specs.lemmas.Named.{streamPlace};
 ghost use Rattle.junction_file.specs.Reading.{atEnd, readFrom, reading};
 use fields::Verdict;
@@ -19,7 +13,6 @@ use limits::MOST_BYTES;
 use limits::MOST_COUNTS;
 use limits::MOST_STREAMS;
 use limits::MOST_ZONES;
-use streams::Stream;
 
 // The answer to every sequence of bytes: a junction, or the first refusal with its number and place. The junction is to be used only where
 // nothing is refused.
@@ -45,9 +38,21 @@ fn read_fields(file: &[u8]) -> Reading
     let mut at: usize = 0;
     let mut j = blank();
     while at < file.len() {
+        let end = fields::field_end(file, at);
+        if file.len() < end {
+            return Reading {
+                verdict: Verdict::Refused {
+                    number: 2,
+                    place: at,
+                },
+                junction: j,
+            };
+        }
+        let tag = file[at];
+        let body = &file[at + 3..end];
         let held = j.held;
-        let a = named_place(file, at, 0);
-        let b = named_place(file, at, 1);
+        let a = stream_place(fields::byte(body, 0));
+        let b = stream_place(fields::byte(body, 1));
         let first = if a < MOST_STREAMS {
             j.streams[a]
         } else {
@@ -58,16 +63,14 @@ fn read_fields(file: &[u8]) -> Reading
         } else {
             no_stream()
         };
-        let verdict = field_verdict(file, at, held, first, second);
+        let verdict = junction_questions::body_verdict(tag, body, at, held, first, second);
         if fields::refused(verdict) {
             return Reading {
                 verdict,
                 junction: j,
             };
         }
-        let tag = file[at];
-        let body = body_at(file, at);
-        at = fields::field_end(file, at);
+        at = end;
         if tag == 1 {
             j.day = junction::design_day(body);
             j.held.last = 1;
@@ -95,17 +98,6 @@ fn read_fields(file: &[u8]) -> Reading
     at_end(file.len(), j)
 }
 
-// The place of the stream that a byte of the field's body names, the first or the second.
-fn named_place(file: &[u8], at: usize, k: usize) -> usize
-    requires { ⌜ (at < length (now file)) × (k < 2) ⌝ }
-    ensures { λ r. ⌜ r ≡ streamPlace (byteAt (bodyOf (now (file .entry)) at) k) ⌝ }
-{
-    if k < fields::number(file, at + 1) as usize {
-        return stream_place(fields::byte(file, at + 3 + k));
-    }
-    stream_place(0)
-}
-
 // The place of the stream with a number; the number 0 has the place past the last.
 fn stream_place(n: u8) -> usize
     ensures { λ r. ⌜ r ≡ streamPlace n ⌝ }
@@ -114,38 +106,6 @@ fn stream_place(n: u8) -> usize
         return MOST_STREAMS;
     }
     n as usize - 1
-}
-
-// Questions 2 to 7 of a field: held is what the junction has before it, first and second are the streams that the body's first two bytes
-// name.
-fn field_verdict(file: &[u8], at: usize, held: Held, first: Stream, second: Stream) -> Verdict
-    requires { ⌜ at < length (now file) ⌝ }
-    ensures { λ r. ⌜ ((j : Junction) → Names j (bodyOf (now (file .entry)) at) held first second → r ≡ fieldVerdict (now (file .entry)) at j) ⌝ }
-{
-    if fields::fits(file, at) {
-        return junction_questions::body_verdict(
-            file[at],
-            body_at(file, at),
-            at,
-            held,
-            first,
-            second,
-        );
-    }
-    Verdict::Refused {
-        number: 2,
-        place: at,
-    }
-}
-
-// The body of a field that fits.
-fn body_at(file: &[u8], at: usize) -> &[u8]
-    requires { ⌜ fits (now file) at ≡ true ⌝ }
-    ensures { λ r. ⌜ now r ≡ bodyOf (now (file .entry)) at ⌝ }
-{
-    let start = at + 3;
-    let end = fields::field_end(file, at);
-    &file[start..end]
 }
 
 fn at_end(size: usize, j: Junction) -> Reading

@@ -39,5 +39,9 @@ pub zone-numbered-at : (j : Junction) (n : ℕ) → 0 < n → zoneNumbered j n �
 unfolding zoneNumbered
 zone-numbered-at j n h = rw (ne-eqb n 0 (ne-of-gt h))
 
+-- a number of one of so many streams
+unfoldable pub numbered : ℕ → ℕ → Bool
+numbered streams n = leb 1 n && leb n streams
+
 unfoldable pub exists : Junction → ℕ → Bool
-exists j n = leb 1 n && leb n (j .held .streams)
+exists j n = numbered (j .held .streams) n

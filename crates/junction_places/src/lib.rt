@@ -1,11 +1,9 @@
 // What stands at a place of a junction, from 0, or has a number, from 1, and the count that gives a stream its flow.
-ghost use mathlib.Core.Bool.{_&&_};
 ghost use mathlib.Core.Path.{_≡_};
 ghost use Prim.Native.Nat.{ℕ, _<_};
-ghost use lib.Dec.{leb};
 ghost use lib.ListN.{getD};
 ghost use Rattle.junction_places.specs.Blank.{noStream, noCount, noZone};
-ghost use Rattle.junction_places.specs.Places.{streamAt, zoneAt, streamNumbered, exists as existsIn};
+ghost use Rattle.junction_places.specs.Places.{streamAt, zoneAt, streamNumbered, numbered as numberedIn, exists as existsIn};
 ghost use Rattle.junction_places.specs.Ranks.{newestRank};
 use junction::Count;
 use junction::Junction;
@@ -20,7 +18,7 @@ use streams::Stream;
 
 // Whether a number is that of one of so many streams.
 pub fn numbered(streams: usize, n: usize) -> bool
-    ensures { λ r. ⌜ r ≡ (leb 1 n && leb n streams) ⌝ }
+    ensures { λ r. ⌜ r ≡ numberedIn streams n ⌝ }
 {
     (1 <= n) & (n <= streams)
 }

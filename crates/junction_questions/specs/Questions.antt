@@ -9,12 +9,13 @@ use Rattle.fields.specs.Bytes.{byteAt, fits, bodyOf}
 use Rattle.fields.specs.Verdict.{ask}
 use Rattle.fields.specs.declared.Verdict.{Verdict}
 use Rattle.fields.specs.declared.Verdict.the-variants.{Passed}
+use Rattle.streams.specs.declared.Stream.{Stream}
 use Rattle.junction.specs.declared.Held.{Held}
 use Rattle.junction.specs.declared.Junction.{Junction}
 use Rattle.junction.specs.Layout.{headingLength, zoneLength, countLength, streamLengthRight, streamInRange, zoneInRange, countInRange}
 use Rattle.limits.specs.Limits.{mostStreams, mostZones, mostCounts}
 use Rattle.streams.specs.Kinds.{isCar}
-use Rattle.junction_places.specs.Places.{streamAt, streamNumbered, exists}
+use Rattle.junction_places.specs.Places.{streamAt, streamNumbered, numbered}
 use Rattle.junction_places.specs.Ranks.{newestRank}
 
 -- a choice by the tag: heading, stream, zone, count
@@ -38,31 +39,43 @@ inRange tag b = byTag tag true (streamInRange b) (zoneInRange b) (countInRange b
 unfoldable pub withinLimit : ℕ → Held → Bool
 withinLimit tag h = byTag tag true (ltb (h .streams) mostStreams) (ltb (h .zones) mostZones) (ltb (h .counts) mostCounts)
 
--- 7, zone: do both streams exist, a below b, in different phases?
-unfoldable pub zoneRefers : Junction → ℕ → ℕ → Bool
-zoneRefers j a b =
-    exists j a && exists j b && ltb a b && not (eqb (streamNumbered j a .phase) (streamNumbered j b .phase))
+-- 7, zone, of so many streams: do both streams exist, a below b, in different phases? first is stream a, second stream b
+unfoldable pub zoneRefers : ℕ → ℕ → ℕ → Stream → Stream → Bool
+zoneRefers streams a b first second =
+    numbered streams a && numbered streams b && ltb a b && not (eqb (first .phase) (second .phase))
 
 -- 7, count: is it an existing car?
-unfoldable pub countRefers : Junction → ℕ → Bool
-countRefers j n = exists j n && isCar (streamNumbered j n .kind)
+unfoldable pub carRefers : ℕ → ℕ → Stream → Bool
+carRefers streams n first = numbered streams n && isCar (first .kind)
 
-unfoldable pub refers : ℕ → Junction → List ℕ → Bool
-refers tag j b = byTag tag true true (zoneRefers j (byteAt b 0) (byteAt b 1)) (countRefers j (byteAt b 0))
+-- first and second are the streams that the body's first two bytes name
+unfoldable pub refers : ℕ → ℕ → List ℕ → Stream → Stream → Bool
+refers tag streams b first second =
+    byTag tag true true (zoneRefers streams (byteAt b 0) (byteAt b 1) first second) (carRefers streams (byteAt b 0) first)
 
--- 3 to 7, of a field that fits, with its place
-unfoldable pub bodyVerdict : ℕ → List ℕ → ℕ → Junction → Verdict
-bodyVerdict tag b at j =
-    ask (inOrder (j .held .last) tag) 3 at
+-- 3 to 7, of a field that fits, with its tag, its body and its place: held is what the file has before it
+unfoldable pub bodyVerdict : ℕ → List ℕ → ℕ → Held → Stream → Stream → Verdict
+bodyVerdict tag b at held first second =
+    ask (inOrder (held .last) tag) 3 at
     (ask (lengthRight tag b) 4 at
     (ask (inRange tag b) 5 at
-    (ask (withinLimit tag (j .held)) 6 at
-    (ask (refers tag j b) 7 at
+    (ask (withinLimit tag held) 6 at
+    (ask (refers tag (held .streams) b first second) 7 at
     Passed))))
+
+-- the stream that a byte of a body names
+abbrev pub namedBy : Junction → List ℕ → ℕ → Stream
+namedBy j b k = streamNumbered j (byteAt b k)
 
 -- 2 to 7: do three bytes and the body fit? ..
 unfoldable pub fieldVerdict : List ℕ → ℕ → Junction → Verdict
-fieldVerdict s at j = ask (fits s at) 2 at (bodyVerdict (byteAt s at) (bodyOf s at) at j)
+fieldVerdict s at j =
+    ask (fits s at) 2 at
+    (bodyVerdict (byteAt s at) (bodyOf s at) at (j .held) (namedBy j (bodyOf s at) 0) (namedBy j (bodyOf s at) 1))
+
+-- a number is that of an existing car
+unfoldable pub countRefers : Junction → ℕ → Bool
+countRefers j n = carRefers (j .held .streams) n (streamNumbered j n)
 
 unfoldable pub inPhase : Junction → ℕ → ℕ → Bool
 inPhase j p i = eqb (streamAt j i .phase) p

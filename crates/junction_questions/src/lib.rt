@@ -2,10 +2,9 @@
 ghost use mathlib.Core.Bool.{_&&_};
 ghost use mathlib.Core.Path.{_≡_};
 ghost use lib.Dec.{eqb};
-ghost use Rattle.junction.specs.declared.Junction.{Junction};
-ghost use Rattle.junction_questions.specs.Questions.{inOrder, lengthRight, inRange, withinLimit, countRefers, refers as refersTo, bodyVerdict, firstInPhase, phasesRight, firstCar, firstLacking, countsVerdict, wholeVerdict};
+ghost use Rattle.junction_questions.specs.Questions.{inOrder, lengthRight, inRange, withinLimit, carRefers, countRefers, refers as refersTo, bodyVerdict, firstInPhase, phasesRight, firstCar, firstLacking, countsVerdict, wholeVerdict};
 ghost use Rattle.streams.specs.Kinds.{isCar};
-ghost use Rattle.junction_questions.specs.lemmas.Parts.{Names, ofStreams};
+ghost use Rattle.junction_questions.specs.lemmas.Parts.{ofStreams};
 use fields::Verdict;
 use fields::ask;
 use junction::Held;
@@ -25,9 +24,9 @@ pub fn body_verdict(
     first: Stream,
     second: Stream,
 ) -> Verdict
-    ensures { λ r. ⌜ ((j : Junction) → Names j (now (b .entry)) held first second → r ≡ bodyVerdict tag (now (b .entry)) at j) ⌝ }
+    ensures { λ r. ⌜ r ≡ bodyVerdict tag (now (b .entry)) at held first second ⌝ }
 {
-    let seven = ask(refers(tag, b, held, first, second), 7, at, Verdict::Passed);
+    let seven = ask(refers(tag, held.streams, b, first, second), 7, at, Verdict::Passed);
     let six = ask(within_limit(tag, held), 6, at, seven);
     let five = ask(in_range(tag, b), 5, at, six);
     let four = ask(length_right(tag, b), 4, at, five);
@@ -88,8 +87,8 @@ fn within_limit(tag: u8, held: Held) -> bool
     held.counts < MOST_COUNTS
 }
 
-fn refers(tag: u8, b: &[u8], held: Held, first: Stream, second: Stream) -> bool
-    ensures { λ r. ⌜ ((j : Junction) → Names j (now (b .entry)) held first second → r ≡ refersTo tag j (now (b .entry))) ⌝ }
+fn refers(tag: u8, streams: usize, b: &[u8], first: Stream, second: Stream) -> bool
+    ensures { λ r. ⌜ r ≡ refersTo tag streams (now (b .entry)) first second ⌝ }
 {
     if tag == 1 {
         return true;
@@ -100,20 +99,26 @@ fn refers(tag: u8, b: &[u8], held: Held, first: Stream, second: Stream) -> bool
     let x = fields::byte(b, 0);
     if tag == 3 {
         let y = fields::byte(b, 1);
-        return junction_places::numbered(held.streams, x as usize)
-            & junction_places::numbered(held.streams, y as usize)
+        return junction_places::numbered(streams, x as usize)
+            & junction_places::numbered(streams, y as usize)
             & (x < y)
             & !(first.phase == second.phase);
     }
-    junction_places::numbered(held.streams, x as usize) & streams::is_car(first)
+    refers_to_car(streams, x as usize, first)
+}
+
+// Whether a number of so many streams, that of this one, is that of a car.
+fn refers_to_car(streams: usize, n: usize, first: Stream) -> bool
+    ensures { λ r. ⌜ r ≡ carRefers streams n first ⌝ }
+{
+    junction_places::numbered(streams, n) & streams::is_car(first)
 }
 
 // Whether a number is that of a car stream.
 pub fn count_refers(j: Junction, n: usize) -> bool
     ensures { λ r. ⌜ r ≡ countRefers j n ⌝ }
 {
-    let s = junction_places::stream_numbered(j, n);
-    junction_places::exists(j, n) & streams::is_car(s)
+    refers_to_car(j.held.streams, n, junction_places::stream_numbered(j, n))
 }
 
 // Question 8, place the file length, and 9, place the stream's number.

@@ -1,13 +1,13 @@
 -- A list whose first places are filled one after the other, and what then stands there.
-use Prim.Native.Nat.{ℕ, zero, suc, _+_, _≤_, _<_}
+use Prim.Native.Nat.{ℕ, zero, suc, _+_, _-_, _≤_, _<_}
 use native.Mathlib.Numerals.{add-one}
 use native.Mathlib.Omega.{arith}
-use mathlib.Core.List.{List}
-use mathlib.Core.Path.{_≡_, refl}
-use lib.Dec.{eqb}
-use lib.ListN.{length, getD, set, length-set}
-use lib.Seq.{getD-set-same, getD-set-other}
-use borrow.Author.Tests.{eqb-true, eqb-false}
+use mathlib.Core.List.{List, _++_}
+use mathlib.Core.Path.{_≡_, refl, sym, _∙_, ap}
+use lib.Dec.{ltb, eqb}
+use lib.ListN.{length, getD, set, drop, length-set, length-append, length-drop, List·getD-append}
+use lib.Seq.{getD-set-same, getD-set-other, ext-getD, getD-drop, getD-append-add}
+use borrow.Author.Tests.{eqb-true, eqb-false, ltb-true, ltb-false}
 use Rattle.laws.specs.Tests.{by-test}
 
 -- l with f 0, .. f (n - 1) in its first n places
@@ -52,3 +52,19 @@ module _ {A : Type 0} (f : ℕ → A) (l : List A) where
   unfolding filled
   filled-same g zero same = refl
   filled-same g (suc n) same = rw (filled-same g n (λ i low. same i (omega arith)), same n (omega arith))
+
+  -- where a list of n elements has f 0, .. f (n - 1), l filled with them is that list, and after it what stood there
+  pub filled-front : (n : ℕ) (front : List A) (d : A) → length front ≡ n → n ≤ length l → ((i : ℕ) → i < n → getD front i d ≡ f i)
+      → filled f l n ≡ front ++ drop n l
+  filled-front n front d long room same =
+      let whole : length (front ++ drop n l) ≡ length l = length-append front (drop n l) ∙ omega (arith, length-drop n l) in
+      ext-getD d _ _ (filled-length n ∙ sym whole) (λ i h.
+      by-test (ltb i n)
+      (λ e. let low : i < n = ltb-true _ _ e in
+      filled-at n i d low room ∙ sym (same i low) ∙ sym (List·getD-append front (drop n l) d i (omega arith)))
+      (λ e. let high : n ≤ i = ltb-false _ _ e in
+      let there : i ≡ length front + (i - n) = omega arith in
+      let place : n + (i - n) ≡ i = omega arith in
+      filled-past n i d high
+      ∙ sym (ap (λ k. getD (front ++ drop n l) k d) there
+      ∙ getD-append-add front (drop n l) (i - n) d ∙ getD-drop n l (i - n) d ∙ ap (λ k. getD l k d) place)))

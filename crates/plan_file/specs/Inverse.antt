@@ -2,30 +2,21 @@
 use Prim.Native.Nat.{ℕ, zero, suc, _+_, _-_, _*_, _/_, _%_, _≤_, _<_}
 use native.Mathlib.Nat.{add-zero, add-sub-cancel}
 use native.Mathlib.Omega.{arith}
-use mathlib.Core.Bool.{true}
 use mathlib.Core.List.{List}
 use mathlib.Core.Path.{_≡_, refl, sym, _∙_}
 use lib.Dec.{ltb}
-use lib.ListN.{length, take}
-use lib.Seq.{length-take-le, getD-take}
+use lib.ListN.{length}
+use lib.Seq.{ext-getD}
 use borrow.Author.Tests.{le-ltb, ltb-true, ltb-false}
-use Rattle.laws.specs.Filled.{filled, filled-at, filled-length}
 use Rattle.laws.specs.Ranges.{Between}
 use Rattle.laws.specs.Tests.{by-test}
 use Rattle.fields.specs.Bytes.{byteAt, numberAt}
 use Rattle.fields.specs.declared.Verdict.the-variants.{Passed}
 use Rattle.plan_file.specs.Plans.{greenAt, greenOf, planOf, planVerdict}
 use Rattle.plan_file.specs.WellFormed.{GreenRight, PlanRight, WellFormed, cycle-read, green-read, well-formed}
-use Rattle.plan_file.specs.Writing.{planSize, cycleByte, greenByte, planByte, hasRoom, written}
+use Rattle.plan_file.specs.Writing.{cycleField, greenField, planFile, planSize, plan-long}
+use Rattle.plan_file.specs.lemmas.Bytes.{cycleByte, greenByte, planByte, plan-byte}
 use Rattle.plan_file.specs.declared.Plan.{Plan}
-
--- the file that is written into a buffer with room for it
-abbrev pub planFile : Plan → ℕ → List ℕ → List ℕ
-planFile p streams l = take (planSize streams) (filled (planByte p) l (planSize streams))
-
-pub written-file : (p : Plan) (streams : ℕ) (l : List ℕ) → hasRoom streams (length l) ≡ true → take (planSize streams) (written p streams l) ≡ planFile p streams l
-unfolding written
-written-file p streams l e = rw e
 
 -- a number is its two bytes
 two-bytes : (n : ℕ) → n / 256 * 256 + n % 256 ≡ n
@@ -39,36 +30,35 @@ green-byte p i r k low e =
     let place : (k - 5) % 8 ≡ r = omega arith in
     rw (le-ltb k 5 (omega arith), stream, place)
 
-module _ (p : Plan) (streams : ℕ) (l : List ℕ) (few : streams ≤ 16) (right : PlanRight p streams) (room : planSize streams ≤ length l) where
-  byte-there : (k : ℕ) → k < planSize streams → byteAt (planFile p streams l) k ≡ planByte p k
+module _ (p : Plan) (streams : ℕ) (few : streams ≤ 16) (right : PlanRight p streams) where
+  byte-there : (k : ℕ) → k < planSize streams → byteAt (planFile p streams) k ≡ planByte p k
   unfolding byteAt
-  byte-there k h =
-      getD-take (planSize streams) _ k 0 h ∙ filled-at (planByte p) l (planSize streams) k 0 h room
+  byte-there k h = plan-byte p streams k h
 
-  number-there : (k : ℕ) → k + 1 < planSize streams → numberAt (planFile p streams l) k ≡ planByte p k * 256 + planByte p (k + 1)
+  number-there : (k : ℕ) → k + 1 < planSize streams → numberAt (planFile p streams) k ≡ planByte p k * 256 + planByte p (k + 1)
   unfolding numberAt
   number-there k h = rw (byte-there k (omega arith), byte-there (k + 1) h)
 
-  cycle-there : numberAt (planFile p streams l) 3 ≡ p .cycle
-  unfolding planSize planByte cycleByte
+  cycle-there : numberAt (planFile p streams) 3 ≡ p .cycle
+  unfolding planSize planByte cycleByte cycleField
   cycle-there = number-there 3 (omega arith) ∙ two-bytes (p .cycle)
 
-  start-there : (i : ℕ) → i < streams → numberAt (planFile p streams l) (5 + 8 * i + 4) ≡ greenOf p (i + 1) .start
-  unfolding planSize greenByte
+  start-there : (i : ℕ) → i < streams → numberAt (planFile p streams) (5 + 8 * i + 4) ≡ greenOf p (i + 1) .start
+  unfolding planSize greenByte greenField
   start-there i h =
       number-there (5 + 8 * i + 4) (omega arith)
       ∙ rw (green-byte p i 4 (5 + 8 * i + 4) (omega arith) refl, green-byte p i 5 (5 + 8 * i + 4 + 1) (omega arith) (omega arith))
       (two-bytes (greenOf p (i + 1) .start))
 
-  length-there : (i : ℕ) → i < streams → numberAt (planFile p streams l) (5 + 8 * i + 6) ≡ greenOf p (i + 1) .length
-  unfolding planSize greenByte
+  length-there : (i : ℕ) → i < streams → numberAt (planFile p streams) (5 + 8 * i + 6) ≡ greenOf p (i + 1) .length
+  unfolding planSize greenByte greenField
   length-there i h =
       number-there (5 + 8 * i + 6) (omega arith)
       ∙ rw (green-byte p i 6 (5 + 8 * i + 6) (omega arith) refl, green-byte p i 7 (5 + 8 * i + 6 + 1) (omega arith) (omega arith))
       (two-bytes (greenOf p (i + 1) .length))
 
-  green-right : (i : ℕ) → i < streams → GreenRight (planFile p streams l) i
-  unfolding planSize greenByte
+  green-right : (i : ℕ) → i < streams → GreenRight (planFile p streams) i
+  unfolding planSize greenByte greenField
   green-right i h =
       record {
         tag = byte-there (5 + 8 * i) (omega arith) ∙ green-byte p i 0 (5 + 8 * i) (omega arith) (omega arith);
@@ -77,29 +67,29 @@ module _ (p : Plan) (streams : ℕ) (l : List ℕ) (few : streams ≤ 16) (right
             ∙ rw (green-byte p i 1 (5 + 8 * i + 1) (omega arith) refl, green-byte p i 2 (5 + 8 * i + 1 + 1) (omega arith) (omega arith));
         stream =
             byte-there (5 + 8 * i + 3) (omega arith)
-            ∙ green-byte p i 3 (5 + 8 * i + 3) (omega arith) refl ∙ omega arith;
+            ∙ green-byte p i 3 (5 + 8 * i + 3) (omega arith) refl;
         start = rw (start-there i h, cycle-there) (right .start (i + 1) (omega arith));
         length = rw (length-there i h, cycle-there) (right .length (i + 1) (omega arith));
       }
 
-  pub written-well-formed : WellFormed (planFile p streams l) streams
-  unfolding planSize planByte cycleByte
+  pub written-well-formed : WellFormed (planFile p streams) streams
+  unfolding planSize planByte cycleByte cycleField
   written-well-formed =
       record {
-        size = length-take-le (planSize streams) _ (omega (arith, filled-length (planByte p) l (planSize streams)));
+        size = plan-long p streams;
         tag = byte-there 0 (omega arith);
         fieldLength = number-there 1 (omega arith);
         cycle = rw cycle-there (right .cycle);
         greens = green-right;
       }
 
-  pub written-passes : planVerdict (planFile p streams l) streams ≡ Passed
+  pub written-passes : planVerdict (planFile p streams) streams ≡ Passed
   written-passes = well-formed _ streams .1 written-well-formed
 
-  pub written-cycle : planOf (planFile p streams l) .cycle ≡ p .cycle
+  pub written-cycle : planOf (planFile p streams) .cycle ≡ p .cycle
   written-cycle = cycle-read _ ∙ cycle-there
 
-  pub written-green : (n : ℕ) → Between 1 streams n → greenOf (planOf (planFile p streams l)) n ≡ greenOf p n
+  pub written-green : (n : ℕ) → Between 1 streams n → greenOf (planOf (planFile p streams)) n ≡ greenOf p n
   unfolding greenAt
   written-green n h =
       let same : n - 1 + 1 ≡ n = omega arith in
@@ -118,7 +108,7 @@ module _ (s : List ℕ) (streams : ℕ) (few : streams ≤ 16) (w : WellFormed s
   low-byte i k next = rw next (omega (arith, bytes (i + 1)))
 
   cycle-again : (k : ℕ) → k < 5 → cycleByte (numberAt s 3) k ≡ byteAt s k
-  unfolding cycleByte
+  unfolding cycleByte cycleField
   cycle-again zero h = sym (w .tag)
   cycle-again (suc zero) h = omega (arith, high-byte 1, w .fieldLength)
   cycle-again (suc (suc zero)) h = omega (arith, low-byte 1 2 refl, w .fieldLength)
@@ -127,7 +117,7 @@ module _ (s : List ℕ) (streams : ℕ) (few : streams ≤ 16) (w : WellFormed s
   cycle-again (suc (suc (suc (suc (suc k))))) h = absurd (omega arith)
 
   green-again : (i : ℕ) → i < streams → (r : ℕ) → r < 8 → greenByte (greenAt s i) (i + 1) r ≡ byteAt s (5 + 8 * i + r)
-  unfolding greenByte greenAt
+  unfolding greenByte greenField greenAt
   green-again i here zero h = rw add-zero (sym (w .greens i here .tag))
   green-again i here (suc zero) h = omega (arith, high-byte (5 + 8 * i + 1), w .greens i here .fieldLength)
   green-again i here (suc (suc zero)) h = omega (arith, low-byte (5 + 8 * i + 1) (5 + 8 * i + 2) (omega arith), w .greens i here .fieldLength)
@@ -138,12 +128,19 @@ module _ (s : List ℕ) (streams : ℕ) (few : streams ≤ 16) (w : WellFormed s
   green-again i here (suc (suc (suc (suc (suc (suc (suc zero))))))) h = low-byte (5 + 8 * i + 6) _ (omega arith)
   green-again i here (suc (suc (suc (suc (suc (suc (suc (suc r)))))))) h = absurd (omega arith)
 
-  pub read-written : (k : ℕ) → k < length s → planByte (planOf s) k ≡ byteAt s k
+  byte-again : (k : ℕ) → k < length s → planByte (planOf s) k ≡ byteAt s k
   unfolding planByte
-  read-written k h =
+  byte-again k h =
       by-test (ltb k 5) (λ e. rw (e, cycle-read) (cycle-again k (ltb-true k 5 e)))
       (λ e. let late : 5 ≤ k = ltb-false k 5 e in
       let here : (k - 5) / 8 < streams = omega (arith, w .size) in
       let there : 5 + 8 * ((k - 5) / 8) + (k - 5) % 8 ≡ k = omega arith in
       rw (e, green-read s streams few w ((k - 5) / 8 + 1) (omega arith), add-sub-cancel ((k - 5) / 8) 1)
       (green-again ((k - 5) / 8) here ((k - 5) % 8) (omega arith) ∙ rw there))
+
+  pub read-written : planFile (planOf s) streams ≡ s
+  unfolding byteAt planSize
+  read-written =
+      let long = plan-long (planOf s) streams in
+      ext-getD 0 _ _ (long ∙ sym (w .size)) (λ k h.
+      plan-byte (planOf s) streams k (omega (arith, long)) ∙ byte-again k (omega (arith, long, w .size)))

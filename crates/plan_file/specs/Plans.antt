@@ -60,6 +60,9 @@ greenAt s i = record { start = numberAt s (5 + 8 * i + 4); length = numberAt s (
 abbrev pub noGreen : Green
 noGreen = record { start = 0; length = 0 }
 
+abbrev pub noPlan : Plan
+noPlan = record { cycle = 0; greens = replicate 16 noGreen }
+
 unfoldable pub planOf : List ℕ → Plan
 planOf s = record { cycle = numberAt s 3; greens = filled (greenAt s) (replicate 16 noGreen) 16 }
 

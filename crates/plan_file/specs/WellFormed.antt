@@ -61,9 +61,11 @@ module _ (s : List ℕ) where
   unfolding cycleExpected
   cycle-follows e = cycle-ends (eqb-true _ _ (both-right (eqb (byteAt s 0) 17) _ e))
 
-  pub places-follow : (i n : ℕ) → greenExpected s (5 + 8 * i) n ≡ true → fieldEnd s (5 + 8 * i) ≡ 5 + 8 * (i + 1)
-  unfolding greenExpected
-  places-follow i n e = let facts = simp and-eq-true-iff at e in green-ends i (eqb-true _ _ (facts .0 .1))
+  pub green-follows : (at n : ℕ) → greenExpected s at n ≡ true → fieldEnd s at ≡ at + 8
+  unfolding greenExpected fieldEnd
+  green-follows at n e =
+      let facts = simp and-eq-true-iff at e in
+      let five : numberAt s (at + 1) ≡ 5 = eqb-true _ _ (facts .0 .1) in omega arith
 
   -- a field passes exactly where it is right and ends within the file
   cycle-passed : (cycleVerdict s ≡ Passed) ↔ (CycleRight s × (5 ≤ length s))

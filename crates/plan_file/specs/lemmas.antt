@@ -1,3 +1,4 @@
+pub mod Bytes
 pub mod Left
 pub mod Long
 pub mod Numbers

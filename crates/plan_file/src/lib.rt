@@ -3,8 +3,9 @@ ghost use mathlib.Core.Path.{_≡_};
 ghost use Prim.Native.Nat.{_/_, _%_, _≤_, _<_};
 ghost use lib.ListN.{length};
 ghost use Rattle.laws.specs.Filled.{filled};
-ghost use Rattle.plan_file.specs.Plans.{noGreen, greenOf, greenAt, planOf, dueVerdict, cycleInRange, cycleExpected, cycleVerdict, greenExpected, greenInRange, greenVerdict, greensFrom, planVerdict};
-ghost use Rattle.plan_file.specs.Writing.{planSize, cycleByte, greenByte, planByte, hasRoom, written};
+ghost use Rattle.plan_file.specs.Plans.{noGreen, noPlan, greenOf, greenAt, planOf, dueVerdict, cycleInRange, cycleExpected, cycleVerdict, greenExpected, greenInRange, greenVerdict, greensFrom, planVerdict};
+ghost use Rattle.plan_file.specs.Writing.{planSize, hasRoom, written};
+ghost use Rattle.plan_file.specs.lemmas.Bytes.{cycleByte, greenByte, planByte};
 use fields::Verdict;
 use fields::ask;
 use limits::MOST_SECONDS;
@@ -30,9 +31,10 @@ pub fn verdict(file: &[u8], streams: usize) -> Verdict
     if fields::refused(first) {
         return first;
     }
-    greens_verdict(file, fields::field_end(file, 0), streams)
+    greens_verdict(file, 5, streams)
 }
 
+// The questions of the fields from a place on: each that is not refused has eight bytes.
 fn greens_verdict(file: &[u8], from: usize, streams: usize) -> Verdict
     requires { ⌜ from ≤ length (now file) ⌝ }
     ensures { λ r. ⌜ r ≡ greensFrom streams (now (file .entry)) from 1 ⌝ }
@@ -44,7 +46,7 @@ fn greens_verdict(file: &[u8], from: usize, streams: usize) -> Verdict
         if fields::refused(v) {
             return v;
         }
-        at = fields::field_end(file, at);
+        at += 8;
         i += 1;
     }
     ask(file.len() <= at, 12, at, Verdict::Passed)
@@ -86,7 +88,7 @@ fn due_verdict(file: &[u8], at: usize, expected: bool, in_range: bool) -> Verdic
 {
     let thirteen = ask(in_range, 13, at, Verdict::Passed);
     let twelve = ask(expected, 12, at, thirteen);
-    let eleven = ask(fields::fits(file, at), 11, at, twelve);
+    let eleven = ask(fields::field_end(file, at) <= file.len(), 11, at, twelve);
     ask(at < file.len(), 12, file.len(), eleven)
 }
 
@@ -165,6 +167,16 @@ pub fn no_green() -> Green
     }
 }
 
+// A plan that says nothing: no cycle, and no green.
+pub fn no_plan() -> Plan
+    ensures { λ r. ⌜ r ≡ noPlan ⌝ }
+{
+    Plan {
+        cycle: 0,
+        greens: [no_green(); MOST_STREAMS],
+    }
+}
+
 // Writes the plan file for a junction with this many streams, at most 16, from the buffer's first byte on; later bytes are untouched.
 // Where the buffer has no room for it, no byte is altered.
 pub fn write(p: Plan, streams: usize, out: &mut [u8])
@@ -176,7 +188,8 @@ pub fn write(p: Plan, streams: usize, out: &mut [u8])
 }
 
 fn write_bytes(p: Plan, size: usize, out: &mut [u8])
-    requires { ⌜ size ≤ length (now out) ⌝ }
+    requires room { ⌜ size ≤ length (now out) ⌝ }
+    requires few { ⌜ size ≤ 133 ⌝ }
     ensures { λ _. ⌜ now (out .exit) ≡ filled (planByte p) (now (out .entry)) size ⌝ }
 {
     let mut k: usize = 0;
@@ -196,7 +209,8 @@ pub fn has_room(streams: usize, size: usize) -> bool
     plan_size(streams) <= size
 }
 
-fn plan_size(streams: usize) -> usize
+// How long the plan file of so many streams is.
+pub fn plan_size(streams: usize) -> usize
     requires { ⌜ streams ≤ 16 ⌝ }
     ensures { λ r. ⌜ r ≡ planSize streams ⌝ }
 {
@@ -205,6 +219,7 @@ fn plan_size(streams: usize) -> usize
 
 // The byte at a place of the plan file: field 11 has 5 bytes, and each field 12 has 8.
 fn plan_byte(p: Plan, k: usize) -> u8
+    requires { ⌜ k < 133 ⌝ }
     ensures { λ r. ⌜ r ≡ planByte p k ⌝ }
 {
     if k < 5 {
@@ -234,7 +249,8 @@ fn cycle_byte(cycle: u16, k: usize) -> u8
 }
 
 fn green_byte(g: Green, n: usize, k: usize) -> u8
-    requires { ⌜ k < 8 ⌝ }
+    requires stream { ⌜ n ≤ 16 ⌝ }
+    requires place { ⌜ k < 8 ⌝ }
     ensures { λ r. ⌜ r ≡ greenByte g n k ⌝ }
 {
     if k == 0 {
@@ -247,7 +263,7 @@ fn green_byte(g: Green, n: usize, k: usize) -> u8
         return 5;
     }
     if k == 3 {
-        return (n % 256) as u8;
+        return n as u8;
     }
     if k == 4 {
         return high(g.start);

@@ -5,4 +5,5 @@ pub mod Letter
 pub mod Long
 pub mod Meaning
 pub mod Numbers
+pub mod Written
 pub mod lemmas

@@ -19,8 +19,8 @@ pub fn judge(junction: &[u8], plan: &[u8]) -> Verdict
     judge_plan(reading.junction, plan)
 }
 
-// The plan's questions and the rules.
-fn judge_plan(j: Junction, plan: &[u8]) -> Verdict
+// The plan's questions and the rules, of a junction that is taken.
+pub fn judge_plan(j: Junction, plan: &[u8]) -> Verdict
     requires { ⌜ Taken j ⌝ }
     ensures { λ r. ⌜ r ≡ planJudgement j (now (plan .entry)) ⌝ }
 {

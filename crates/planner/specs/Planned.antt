@@ -1,5 +1,5 @@
 -- Every plan that is worked out is well-formed and accepted: the bytes written, judged with the junction file that they were worked out from.
-use Prim.Native.Nat.{ℕ, _≤_}
+use Prim.Native.Nat.{ℕ}
 use native.Mathlib.Omega.{arith}
 use mathlib.Core.Bool.{true, not, true≢false}
 use mathlib.Core.List.{List}
@@ -14,34 +14,24 @@ use Rattle.junction.specs.declared.Junction.{Junction}
 use Rattle.junction_file.specs.Reading.{reading}
 use Rattle.junction_file.specs.Taken.{Taken}
 use Rattle.junction_file.specs.TakenFile.{taken}
-use Rattle.plan_file.specs.Inverse.{planFile, written-file, written-passes, written-cycle, written-green}
 use Rattle.plan_file.specs.Plans.{planVerdict}
-use Rattle.plan_file.specs.Writing.{planSize, has-room}
+use Rattle.plan_file.specs.Writing.{planFile, planSize, written-file}
 use Rattle.phase_greens.specs.Greens.{givesGreens}
 use Rattle.junction_phases.specs.JunctionPhases.{phasesAt}
 use Rattle.plan_rules.specs.Rules.{rulesVerdict}
-use Rattle.plan_rules.specs.lemmas.Same.{rules-same}
 use Rattle.cycle_search.specs.lemmas.Lengths.{works-only, works-is}
 use Rattle.cycle_search.specs.Planned.{plan-in-range}
 use Rattle.cycle_search.specs.Planning.{planAt, works, cycle}
 use Rattle.plan_judge.specs.Demand3.{only-acceptable}
 use Rattle.plan_judge.specs.Judgement.{planJudgement, judgement}
+use Rattle.plan_judge.specs.Written.{file-judged}
 use Rattle.planner.specs.lemmas.Cases.{first-tried-range, cycle-works, cycle-found, room-found, buffer-passed, worked-verdict}
 use Rattle.planner.specs.WorkingOut.{junctionVerdict, junctionWorked, junctionBuffer, worked, buffer}
 
--- a length whose greens are 1 or more works exactly where the judge refuses nothing of the file of its plan, in any buffer with room
-module _ (j : Junction) (t : Taken j) (c : ℕ) (range : Between 1 180 c) (p : givesGreens (phasesAt j c) c ≡ true) (lent : List ℕ)
-    (room : planSize (j .held .streams) ≤ length lent) where
-  same-rules : planJudgement j (planFile (planAt j c) (j .held .streams) lent) ≡ rulesVerdict j (planAt j c)
-  unfolding planJudgement
-  same-rules =
-      let few = t .fields .fewStreams in
-      let good = plan-in-range j t c p range in
-      rw (written-passes (planAt j c) (j .held .streams) lent few good room)
-      (rules-same j t _ (planAt j c) (written-cycle (planAt j c) (j .held .streams) lent few good room) (written-green (planAt j c) (j .held .streams) lent few good room))
-
-  pub works-accepted : (works j c ≡ true) ↔ (planJudgement j (planFile (planAt j c) (j .held .streams) lent) ≡ Passed)
-  works-accepted = rw (works-is j c, same-rules, p) (
+-- a length whose greens are 1 or more works exactly where the judge refuses nothing of the file of its plan
+module _ (j : Junction) (t : Taken j) (c : ℕ) (range : Between 1 180 c) (p : givesGreens (phasesAt j c) c ≡ true) where
+  pub works-accepted : (works j c ≡ true) ↔ (planJudgement j (planFile (planAt j c) (j .held .streams)) ≡ Passed)
+  works-accepted = rw (works-is j c, file-judged j t (planAt j c) (plan-in-range j t c p range), p) (
     λ e. not-refused _ (by-test (isRefused (rulesVerdict j (planAt j c))) (λ r. absurd (true≢false (sym e ∙ ap not r))) (λ r. r)),
     λ e. rw e,
   )
@@ -50,11 +40,8 @@ module _ (j : Junction) (t : Taken j) (lent : List ℕ) (e : junctionVerdict j (
   found-low : Between 1 180 (cycle j)
   found-low = omega (arith, cycle-found j (length lent) e, cycle-works j (cycle-found j (length lent) e) .0, first-tried-range j)
 
-  room : planSize (j .held .streams) ≤ length lent
-  room = has-room (j .held .streams) (length lent) (room-found j (length lent) e) .1
-
   -- the file that is written
-  file-written : take (planSize (j .held .streams)) (junctionBuffer j lent) ≡ planFile (planAt j (cycle j)) (j .held .streams) lent
+  file-written : take (planSize (j .held .streams)) (junctionBuffer j lent) ≡ planFile (planAt j (cycle j)) (j .held .streams)
   file-written =
       ap (take (planSize (j .held .streams))) (sym (buffer-passed j lent (ap isRefused e)))
       ∙ written-file (planAt j (cycle j)) (j .held .streams) lent (room-found j (length lent) e)
@@ -63,7 +50,7 @@ module _ (j : Junction) (t : Taken j) (lent : List ℕ) (e : junctionVerdict j (
   pub plan-accepted : planJudgement j (take (planSize (j .held .streams)) (junctionBuffer j lent)) ≡ Passed
   plan-accepted =
       let works = cycle-works j (cycle-found j (length lent) e) .1 in
-      rw file-written (works-accepted j t (cycle j) found-low (works-only j (cycle j) works .0) lent room .0 works)
+      rw file-written (works-accepted j t (cycle j) found-low (works-only j (cycle j) works .0) .0 works)
 
 -- for every junction file and every lent buffer: where nothing is refused, the plan file in the buffer is accepted
 pub planned-accepted : (junction lent : List ℕ) → worked junction (length lent) .verdict ≡ Passed

@@ -9,7 +9,7 @@ use Rattle.fields.specs.declared.Verdict.{Verdict}
 use Rattle.fields.specs.declared.Verdict.the-variants.{Passed}
 use Rattle.junction.specs.declared.Junction.{Junction}
 use Rattle.junction_file.specs.Reading.{reading}
-use Rattle.plan_file.specs.Writing.{hasRoom, written}
+use Rattle.plan_file.specs.Writing.{planSize, hasRoom, written}
 use Rattle.cycle_search.specs.Planning.{ratios, firstTried, planAt, cycle, found}
 use Rattle.planner.specs.declared.Worked.{Worked}
 use Rattle.limits.specs.Limits.{noCycle}
@@ -26,13 +26,18 @@ calculation y c room = ask (ltb y 10000) 21 0 (searched c room)
 unfoldable pub junctionVerdict : Junction → ℕ → Verdict
 junctionVerdict j size = calculation (ratios j) (cycle j) (hasRoom (j .held .streams) size)
 
-abbrev refusal : Verdict → Worked
-refusal v = record { verdict = v; cycle = 0; tried = 0 }
+abbrev pub refusal : Verdict → Worked
+refusal v = record { verdict = v; cycle = 0; tried = 0; size = 0 }
 
 unfoldable pub junctionWorked : Junction → ℕ → Worked
 junctionWorked j size =
     cond (isRefused (junctionVerdict j size)) (refusal (junctionVerdict j size))
-    (record { verdict = junctionVerdict j size; cycle = found j (firstTried j) .cycle; tried = found j (firstTried j) .tried })
+    (record {
+      verdict = junctionVerdict j size;
+      cycle = found j (firstTried j) .cycle;
+      tried = found j (firstTried j) .tried;
+      size = planSize (j .held .streams);
+    })
 
 -- the plan file from the first byte, later bytes untouched; a refusal alters no byte
 unfoldable pub junctionBuffer : Junction → List ℕ → List ℕ

@@ -78,17 +78,17 @@ unfolding heading car pedestrian zone count
 withFlow flow = heading ++ car 3 ++ pedestrian ++ zone 1 2 ++ count 40 flow
 
 -- 2,500 E/h over S 1,925: Y is 12,988
-refused-21 : worked (withFlow 2500) 21 ≡ record { verdict = Refused 21 0; cycle = 0; tried = 0 }
+refused-21 : worked (withFlow 2500) 21 ≡ record { verdict = Refused 21 0; cycle = 0; tried = 0; size = 0 }
 unfolding withFlow toPlan
 refused-21 = refl
 
 -- 1,923 E/h: Y is 9,990, and T0 above 180
-refused-22 : worked (withFlow 1923) 21 ≡ record { verdict = Refused 22 0; cycle = 0; tried = 0 }
+refused-22 : worked (withFlow 1923) 21 ≡ record { verdict = Refused 22 0; cycle = 0; tried = 0; size = 0 }
 unfolding withFlow toPlan
 refused-22 = refl
 
 -- a byte too few for the plan
-refused-23 : worked WC 20 ≡ record { verdict = Refused 23 0; cycle = 0; tried = 0 }
+refused-23 : worked WC 20 ≡ record { verdict = Refused 23 0; cycle = 0; tried = 0; size = 0 }
 unfolding toPlan
 refused-23 = refl
 
@@ -110,6 +110,6 @@ unfolding farApart toPlan
 far-first = refl
 
 -- each of the 111 lengths from 70 to 180 is tried, and none is accepted
-far-none : worked farApart 37 ≡ record { verdict = Refused 22 0; cycle = 0; tried = 0 }
+far-none : worked farApart 37 ≡ record { verdict = Refused 22 0; cycle = 0; tried = 0; size = 0 }
 unfolding farApart toPlan
 far-none = refl

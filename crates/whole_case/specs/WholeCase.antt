@@ -14,14 +14,14 @@ use Rattle.junction.specs.Layout.{designDay, radiusInRange, sharesInRange, carI
 use Rattle.junction.specs.Layout.{pedestrianInRange, pedestrianOf, cyclistInRange, cyclistOf, streamLengthRight, streamInRange, kindOf, streamOf, zoneInRange, zoneOf, countInRange, countOf}
 use Rattle.junction_questions.specs.Questions.{inOrder, lengthRight, inRange, withinLimit}
 use Rattle.junction_places.specs.Places.{streamAt, countAt, zoneAt, streamNumbered, zoneNumbered}
-use Rattle.junction_questions.specs.Questions.{zoneRefers, countRefers, refers, bodyVerdict, fieldVerdict, inPhase, firstInPhase, phaseUsed, phaseFollows, phasesRight, carAt}
-use Rattle.junction_places.specs.Places.{exists}
+use Rattle.junction_questions.specs.Questions.{zoneRefers, carRefers, refers, bodyVerdict, fieldVerdict, inPhase, firstInPhase, phaseUsed, phaseFollows, phasesRight, carAt}
+use Rattle.junction_places.specs.Places.{numbered, exists}
 use Rattle.junction_questions.specs.Questions.{firstCar, lacksCount, firstLacking, countsVerdict, whole, wholeVerdict}
 use Rattle.junction_places.specs.Ranks.{rankAt, newestRank}
 use Rattle.junction_file.specs.Reading.{withHeading, withStream, withZone, withCount, withField, afterField, readField, atEnd, readFrom, reading}
 use Rattle.junction_figures.specs.Figures.{forward, backward, zoneEntry, pairEntry, streamNeed, streamFlow, streamSaturation, streamRatio}
 use Rattle.plan_file.specs.Plans.{dueVerdict, cycleExpected, cycleVerdict, greenExpected, greenInRange, greenVerdict, greensFrom, planVerdict, greenAt as fileGreen, planOf, greenOf}
-use Rattle.plan_file.specs.Writing.{planSize, cycleByte, greenByte, planByte, hasRoom, written}
+use Rattle.plan_file.specs.Writing.{cycleField, greenField, greenFields, planFile, planSize, hasRoom, written}
 use Rattle.plan_rules.specs.Rules.{needMet, enoughCapacity, capacityMet, off, zoneClear, zoneMet, rulesVerdict}
 use Rattle.plan_judge.specs.Judgement.{planJudgement, judgement}
 use Rattle.phase_lengths.specs.Phases.{lostTime}
@@ -61,7 +61,7 @@ wp-bytes = refl
 -- the definitions that a closed theorem computes with
 unfoldable pub toRead : Unit {0}
 unfolding WC WP planFrom reading readFrom atEnd readField afterField withField withHeading withStream withZone withCount
-    fieldVerdict bodyVerdict inOrder lengthRight inRange withinLimit refers zoneRefers countRefers exists
+    fieldVerdict bodyVerdict inOrder lengthRight inRange withinLimit refers zoneRefers carRefers numbered exists
     streamNumbered streamAt countAt zoneAt wholeVerdict whole countsVerdict firstLacking lacksCount newestRank rankAt
     firstCar carAt phasesRight phaseFollows phaseUsed firstInPhase inPhase largestOf firstBelow firstOf rank usable
     designDay radiusInRange sharesInRange carInRange carOf tramInRange tramOf pedestrianInRange pedestrianOf cyclistInRange cyclistOf
@@ -109,7 +109,7 @@ unfolding toJudge
 too-early = refl
 
 unfoldable pub toPlan : Unit {0}
-unfolding toJudge toPhases planSize cycleByte greenByte planByte hasRoom written
+unfolding toJudge toPhases cycleField greenField greenFields planFile planSize hasRoom written
     isIn carIn hasCars phaseRatio phaseNeed phaseCount hasPedestrianOrTram nextPhase entryBetween phaseEntry intergreen phaseAt phasesAt
     ratios firstTried phaseGreen planAt outcome works cycleFrom cycle found calculation junctionVerdict junctionWorked junctionBuffer worked buffer
 toPlan = tt
@@ -122,7 +122,7 @@ first-length : firstTried (reading WC .junction) ≡ 50
 unfolding toPlan
 first-length = refl
 
-planned : worked WC 21 ≡ record { verdict = Passed; cycle = 50; tried = 1 }
+planned : worked WC 21 ≡ record { verdict = Passed; cycle = 50; tried = 1; size = 21 }
 unfolding toPlan
 planned = refl
 

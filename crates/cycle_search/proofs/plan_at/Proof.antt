@@ -9,7 +9,7 @@ use Rattle.laws.specs.Filled.{filled, filled-none, filled-next}
 use Rattle.laws.specs.Ranges.{Between}
 use Rattle.junction_places.specs.Blank.{noStream}
 use Rattle.junction_places.specs.Places.{streamNumbered}
-use Rattle.junction_tables.specs.lemmas.Places.{stream-place}
+use Rattle.junction_file.specs.lemmas.Places.{stream-place}
 use Rattle.phase_greens.specs.Greens.{sharing}
 use Rattle.phase_greens.specs.Slots.{noSlot, slotAt, slot-place}
 use Rattle.junction_phases.specs.JunctionPhases.{phasesAt}

@@ -5,18 +5,31 @@ use native.Mathlib.Omega.{arith}
 use mathlib.Core.Bool.{Bool, true, false}
 use mathlib.Core.Path.{_≡_, refl, sym, _∙_}
 use lib.Dec.{eqb}
-use borrow.Author.Tests.{eqb-true, eqb-false}
+use borrow.Author.Tests.{lt-ltb, eqb-true, eqb-false}
 use Rattle.laws.specs.Ranges.{Between}
 use Rattle.laws.specs.Search.{first-found, first-next, first-out}
 use Rattle.laws.specs.Tests.{by-test}
 use Rattle.junction.specs.declared.Junction.{Junction}
 use Rattle.phase_greens.specs.Greens.{givesGreens}
 use Rattle.junction_phases.specs.JunctionPhases.{phasesAt}
+use Rattle.junction_file.specs.Taken.{Taken}
+use Rattle.junction_tables.specs.Tables.{conflictsOf, loadsOf}
+use Rattle.junction_tables.specs.declared.Conflicts.{Conflicts}
+use Rattle.junction_tables.specs.declared.Loads.{Loads}
+use Rattle.phase_lengths.specs.declared.Phases.{Phases}
+use Rattle.plan_file.specs.Plans.{noPlan}
 use Rattle.plan_file.specs.declared.Plan.{Plan}
 use Rattle.plan_rules.specs.Rules.{needMet, capacityMet, zoneMet}
 use Rattle.cycle_search.specs.lemmas.Lengths.{fails-gives-greens, fails-need, fails-capacity, fails-zone, works-where}
 use Rattle.cycle_search.specs.Planning.{planAt, works, cycleFrom, found}
 use Rattle.cycle_search.specs.declared.Found.{Found}
+
+-- what the search is given
+pub record Given (j : Junction) (l : Loads) (c : Conflicts) (q : Phases) : Type 0 where
+  pub taken : Taken j
+  pub loads : l ≡ loadsOf j
+  pub conflicts : c ≡ conflictsOf j
+  pub phases : q ≡ phasesAt j 0
 
 -- before length t is tried
 pub record Rest (j : Junction) (first t tried : ℕ) : Type 0 where
@@ -61,7 +74,7 @@ module _ (j : Junction) (first : ℕ) where
         → Trying j first t (tried + 1) p
     rest-trying tried p r h e is = record { high = h; same = r .same; count = omega (arith, r .count); plan = is; givesGreens = e }
 
-    pub rest-none : (tried : ℕ) → Rest j first t tried → 181 ≤ t → _≡_ {A = Found} (record { cycle = t; tried = tried }) (found j first)
+    pub rest-none : (tried : ℕ) → Rest j first t tried → 181 ≤ t → _≡_ {A = Found} (record { cycle = t; tried = tried; plan = noPlan }) (found j first)
     unfolding found
     rest-none tried r h =
         let last : t ≡ 181 = omega (arith, r .high) in
@@ -83,11 +96,11 @@ module _ (j : Junction) (first : ℕ) where
       zone-broken n w e = broken (fails-zone j t n w (rw (r .plan) at e))
 
       pub trying-found : Met (needMet j p) (j .held .streams) → Met (capacityMet j p) (j .held .streams) → Met (zoneMet j p) (j .held .zones)
-          → _≡_ {A = Found} (record { cycle = t; tried = tried }) (found j first)
+          → _≡_ {A = Found} (record { cycle = t; tried = tried; plan = p }) (found j first)
       unfolding found
       trying-found needs capacities zones =
           let e = works-where j t (r .givesGreens) (rw (r .plan) at needs) (rw (r .plan) at capacities) (rw (r .plan) at zones) in
           let is : cycleFrom j first ≡ t = sym (r .same) ∙ unfold cycleFrom in first-found (works j) 181 t (r .high) e in
           let n : tried ≡ t + 1 - first = omega (arith, r .count) in
           let within : min t 180 ≡ t = min-eq-left (omega (arith, r .high)) in
-          rw (is, within, n)
+          rw (is, within, n, lt-ltb t 181 (r .high), r .plan)

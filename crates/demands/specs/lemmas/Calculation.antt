@@ -18,9 +18,10 @@ use Rattle.plan_file.specs.Writing.{planSize, hasRoom, has-room, written}
 use Rattle.cycle_search.specs.Planning.{ratios, firstTried, planAt, cycle, found}
 use Rattle.planner.specs.lemmas.Cases.{first-tried-range, found-cycle, cycle-works, file-verdict, worked-passed, buffer-passed, file-taken, lent-taken}
 use Rattle.planner.specs.Demand2.{cycle-least, tried-bounds}
+use Rattle.planner.specs.declared.Worked.{Worked}
 use Rattle.planner.specs.WorkingOut.{calculation, junctionVerdict, worked, buffer}
 use Rattle.demands.specs.Files.{planBytes, Accepted, Result}
-use Rattle.demands.specs.lemmas.Works.{written-bytes, works-file}
+use Rattle.demands.specs.lemmas.Works.{works-file}
 
 -- three questions asked in order
 module _ where
@@ -108,7 +109,7 @@ module _ (junction : List ℕ) (is : reading junction .verdict ≡ Passed) where
         let j = reading junction .junction in
         let p = planAt j (cycle j) in
         sym (buffer-passed j lent (ap isRefused passed) ∙ lent-taken junction lent (ap isRefused is))
-        ∙ unfold written planSize in rw room (written-bytes p (j .held .streams) lent (has-room (j .held .streams) (length lent) room .1))
+        ∙ unfold written planSize in rw room
 
     pub answered : worked junction (length lent) .verdict ≡ Passed → Result junction lent (worked junction (length lent))
     answered e =
@@ -116,8 +117,10 @@ module _ (junction : List ℕ) (is : reading junction .verdict ≡ Passed) where
         let three = ask-none (ltb (ratios j) 10000) (ltb (cycle j) 181) (hasRoom (j .held .streams) (length lent)) .0 (sym verdict-is ∙ e) in
         let low : cycle j < 181 = ltb-true _ _ (three .1) in
         let passed : junctionVerdict j (length lent) ≡ Passed = unfold junctionVerdict calculation in (sym verdict-is ∙ e) in
-        let w : worked junction (length lent) ≡ record { verdict = junctionVerdict j (length lent); cycle = cycle j; tried = found j (firstTried j) .tried } =
-        sym (worked-passed j (length lent) (ap isRefused passed) ∙ file-taken junction (length lent) (ap isRefused is)) ∙ ap (λ c. record { verdict = junctionVerdict j (length lent); cycle = c; tried = found j (firstTried j) .tried }) (found-cycle j) in
+        let told : ℕ → Worked =
+        λ c. record { verdict = junctionVerdict j (length lent); cycle = c; tried = found j (firstTried j) .tried; size = planSize (j .held .streams) } in
+        let w : worked junction (length lent) ≡ told (cycle j) =
+        sym (worked-passed j (length lent) (ap isRefused passed) ∙ file-taken junction (length lent) (ap isRefused is)) ∙ ap told (found-cycle j) in
         let works = cycle-works j low in
         let first = first-tried-range j in
         let bounds = tried-bounds j low in
@@ -128,5 +131,6 @@ module _ (junction : List ℕ) (is : reading junction .verdict ≡ Passed) where
           least = λ t from below a. true≢false (sym (works-file junction is t (omega arith) .1 a) ∙ cycle-least j t from below);
           most = bounds .0;
           fewest = bounds .1;
+          size = unfold planSize in refl;
           file = buffer-is passed (three .2);
         })

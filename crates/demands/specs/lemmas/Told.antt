@@ -15,7 +15,7 @@ use Rattle.fields.specs.declared.Verdict.{Verdict}
 use Rattle.fields.specs.declared.Verdict.the-variants.{Passed, Refused}
 use Rattle.junction.specs.declared.Junction.{Junction}
 use Rattle.junction_places.specs.Blank.{blank}
-use Rattle.junction_questions.specs.Questions.{inOrder, lengthRight, inRange, withinLimit, refers, bodyVerdict, fieldVerdict, firstLacking, countsVerdict, whole, wholeVerdict}
+use Rattle.junction_questions.specs.Questions.{inOrder, lengthRight, inRange, withinLimit, refers, bodyVerdict, namedBy, fieldVerdict, firstLacking, countsVerdict, whole, wholeVerdict}
 use Rattle.junction_file.specs.Reading.{afterField, readField, atEnd, readFrom, reading}
 use Rattle.plan_file.specs.Plans.{dueVerdict, cycleVerdict, greenVerdict, greensFrom, planVerdict, planOf}
 use Rattle.plan_file.specs.Writing.{hasRoom}
@@ -65,7 +65,7 @@ module _ (s : List ℕ) where
       ask-told R (lengthRight tag b) 4 at _ (λ e. field (omega arith) low) (λ e.
       ask-told R (inRange tag b) 5 at _ (λ e. field (omega arith) low) (λ e.
       ask-told R (withinLimit tag (j .held)) 6 at _ (λ e. field (omega arith) low) (λ e.
-      ask-told R (refers tag j b) 7 at Passed (λ e. field (omega arith) low) (λ e. tt))))))
+      ask-told R (refers tag (j .held .streams) b (namedBy j b 0) (namedBy j b 1)) 7 at Passed (λ e. field (omega arith) low) (λ e. tt))))))
 
   end-told : (j : Junction) → Told (JunctionPlace (length s) (j .held .streams)) (wholeVerdict (length s) j)
   unfolding wholeVerdict countsVerdict firstLacking

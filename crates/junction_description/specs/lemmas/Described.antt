@@ -15,8 +15,8 @@ use Rattle.junction.specs.declared.Junction.{Junction}
 use Rattle.junction.specs.Layout.{headingLength}
 use Rattle.limits.specs.Limits.{mostStreams, mostZones, mostCounts}
 use Rattle.junction_places.specs.Blank.{blank}
-use Rattle.junction_questions.specs.lemmas.Passed.{BodyPassed, body-passed, field-passed}
-use Rattle.junction_questions.specs.Questions.{inOrder, lengthRight, inRange, withinLimit, refers}
+use Rattle.junction_questions.specs.lemmas.Passed.{BodyPassed, field-passed}
+use Rattle.junction_questions.specs.Questions.{inOrder, lengthRight, inRange, withinLimit, refers, countRefers}
 use Rattle.junction_file.specs.Reading.{withHeading, withStream, withZone, withCount, withField}
 use Rattle.junction_description.specs.File.{place, tag, body, StreamField, ZoneField, CountField}
 use Rattle.junction_description.specs.lemmas.Holds.{Holds, holds-heading, holds-stream, holds-zone, holds-count, zone-refers, count-refers}
@@ -144,7 +144,7 @@ module _ (s : List ℕ) where
         omega (arith, leb-true)
 
     next-field : Some (suc i) (withField (tag s i) (body s i) j)
-    unfolding withField lengthRight inRange withinLimit refers
+    unfolding withField lengthRight inRange withinLimit refers countRefers
     next-field =
         let o = ordered in
         let h = p .holds in
@@ -189,6 +189,6 @@ module _ (s : List ℕ) where
   parts begin = inl (refl, refl)
   parts (next {i = i} {j = j} p low e) =
       let f = field-passed s (place s i) j e in
-      let b = body-passed (tag s i) (body s i) (place s i) j (f .1) in
+      let b = f .1 in
       ⊎-elim (λ (none : (i ≡ 0) × (j ≡ blank)). inr (heading-next i j (none .0) (none .1) (f .0) b))
       (λ (q : (n z c : ℕ) × (i ≡ n + z + c + 1) × Part s j n z c). inr (next-field j (q .0) (q .1) (q .2) i (q .3) (q .4) (f .0) b)) (parts p)

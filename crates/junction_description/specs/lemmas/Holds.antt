@@ -17,8 +17,8 @@ use Rattle.junction.specs.declared.Junction.{Junction}
 use Rattle.junction.specs.Layout.{designDay, kindOf, carOf, tramOf, pedestrianOf, cyclistOf, streamOf, countOf}
 use Rattle.limits.specs.Limits.{mostStreams, mostCounts}
 use Rattle.junction_places.specs.Blank.{noStream, noCount, blank}
-use Rattle.junction_questions.specs.Questions.{zoneRefers, countRefers}
-use Rattle.junction_places.specs.Places.{streamAt, countAt, streamNumbered, numbered-at, exists}
+use Rattle.junction_questions.specs.Questions.{zoneRefers, carRefers, countRefers}
+use Rattle.junction_places.specs.Places.{streamAt, countAt, streamNumbered, numbered, numbered-at}
 use Rattle.streams.specs.Kinds.{isCar}
 use Rattle.junction_file.specs.Reading.{withHeading, withStream, withZone, withCount}
 use Rattle.junction_description.specs.File.{body}
@@ -142,41 +142,41 @@ kind-car b =
     (λ n4. rw (n1, n2, n3, n4) (λ t. absurd (false≢true t), λ k. absurd (other k))))))
 
 module _ (s : List ℕ) (j : Junction) (streams zones counts : ℕ) (r : Holds s j streams zones counts) where
-  numbered : (n : ℕ) → Between 1 streams n → streamNumbered j n ≡ streamOf (body s n)
-  numbered n w =
+  stream-is : (n : ℕ) → Between 1 streams n → streamNumbered j n ≡ streamOf (body s n)
+  stream-is n w =
       let there : n - 1 + 1 ≡ n = omega arith in
       numbered-at j n (w .0) ∙ r .stream (n - 1) (omega arith) ∙ ap (λ k. streamOf (body s k)) there
 
   pub phase-is : (n : ℕ) → Between 1 streams n → streamNumbered j n .phase ≡ byteAt (body s n) 1
   unfolding streamOf
-  phase-is n w = ap Stream.phase (numbered n w)
+  phase-is n w = ap Stream.phase (stream-is n w)
 
   pub car-is : (n : ℕ) → Between 1 streams n → (isCar (streamNumbered j n .kind) ≡ true) ↔ (byteAt (body s n) 0 ≡ 1)
   unfolding streamOf
-  car-is n w = rw (ap Stream.kind (numbered n w)) (kind-car (body s n))
+  car-is n w = rw (ap Stream.kind (stream-is n w)) (kind-car (body s n))
 
-  exists-is : (n : ℕ) → (exists j n ≡ true) ↔ Between 1 streams n
-  unfolding exists
-  exists-is n = (
+  number-is : (n : ℕ) → (numbered (j .held .streams) n ≡ true) ↔ Between 1 streams n
+  unfolding numbered
+  number-is n = (
     λ e. let facts = simp and-eq-true-iff at e in omega (arith, leb-true, r .streamsHeld),
     λ w. both _ _ (le-leb 1 n (w .0)) (le-leb n _ (omega (arith, r .streamsHeld))),
   )
 
   pub zone-refers : (a b : ℕ)
-      → (zoneRefers j a b ≡ true)
+      → (zoneRefers (j .held .streams) a b (streamNumbered j a) (streamNumbered j b) ≡ true)
       ↔ (Between 1 streams a × Between 1 streams b × (a < b) × (byteAt (body s a) 1 ≡ byteAt (body s b) 1 → ⊥))
   unfolding zoneRefers
   zone-refers a b = (
     λ e. let facts = simp and-eq-true-iff at e in
-        let wa = exists-is a .0 (facts .0 .0 .0) in
-        let wb = exists-is b .0 (facts .0 .0 .1) in
+        let wa = number-is a .0 (facts .0 .0 .0) in
+        let wb = number-is b .0 (facts .0 .0 .1) in
         (wa, wb, ltb-true a b (facts .0 .1), λ same. eqb-false _ _ (not-true _ (facts .1)) (phase-is a wa ∙ same ∙ sym (phase-is b wb))),
-    λ w. simp (exists-is a .1 (w .0), exists-is b .1 (w .1), lt-ltb a b (w .2), phase-is a (w .0), phase-is b (w .1), ne-eqb _ _ (w .3)),
+    λ w. simp (number-is a .1 (w .0), number-is b .1 (w .1), lt-ltb a b (w .2), phase-is a (w .0), phase-is b (w .1), ne-eqb _ _ (w .3)),
   )
 
   pub count-refers : (n : ℕ) → (countRefers j n ≡ true) ↔ (Between 1 streams n × (byteAt (body s n) 0 ≡ 1))
-  unfolding countRefers
+  unfolding countRefers carRefers
   count-refers n = (
-    λ e. let w = exists-is n .0 (both-left (exists j n) _ e) in (w, car-is n w .0 (both-right (exists j n) _ e)),
-    λ w. both _ _ (exists-is n .1 (w .0)) (car-is n (w .0) .1 (w .1)),
+    λ e. let w = number-is n .0 (both-left (numbered (j .held .streams) n) _ e) in (w, car-is n w .0 (both-right (numbered (j .held .streams) n) _ e)),
+    λ w. both _ _ (number-is n .1 (w .0)) (car-is n (w .0) .1 (w .1)),
   )

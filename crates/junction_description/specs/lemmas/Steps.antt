@@ -3,7 +3,7 @@ use Prim.Native.Nat.{ℕ, zero, suc, _-_, _≤_, _<_}
 use native.Mathlib.Omega.{arith}
 use mathlib.Core.Bool.{true≢false, false≢true}
 use mathlib.Core.List.{List}
-use mathlib.Core.Path.{_≡_, sym, _∙_, ap}
+use mathlib.Core.Path.{_≡_, refl, sym, _∙_, ap}
 use lib.Dec.{leb, ltb}
 use lib.ListN.{length}
 use borrow.Author.Tests.{ltb-true, ltb-false, leb-true, le-leb}
@@ -37,7 +37,7 @@ module _ (s : List ℕ) where
   rest : {i : ℕ} {j : Junction} → Passes s i j → Rest s (place s i) j
   unfolding place
   rest begin = rest-begins s
-  rest (next p low e) = rest-turns s _ _ (rest p) low e
+  rest (next p low e) = rest-turns s _ _ (rest p) low e _ refl
 
   -- a reading that passes ends after some fields that pass
   Ends : Reading → Type 0

@@ -23,9 +23,9 @@ use Rattle.junction.specs.declared.Side.{Side}
 use Rattle.junction.specs.declared.Zone.{Zone}
 use Rattle.junction.specs.Layout.{radiusInRange, sharesInRange, carInRange, carOf, tramInRange, tramOf, pedestrianInRange, pedestrianOf, cyclistInRange, cyclistOf, streamInRange, kindOf, streamOf, zoneInRange, zoneOf, countInRange, countOf}
 use Rattle.junction_places.specs.Blank.{noStream, noZone, noCount, blank}
-use Rattle.junction_questions.specs.lemmas.Passed.{BodyPassed, body-passed, field-passed}
-use Rattle.junction_questions.specs.Questions.{inRange, withinLimit, refers, zoneRefers, countRefers, fieldVerdict, inPhase, firstInPhase, phaseUsed, phaseFollows, phasesRight, carAt, firstCar, lacksCount, firstLacking, countsVerdict, wholeVerdict}
-use Rattle.junction_places.specs.Places.{streamAt, countAt, zoneAt, streamNumbered, numbered-at, exists}
+use Rattle.junction_questions.specs.lemmas.Passed.{BodyPassed, field-passed}
+use Rattle.junction_questions.specs.Questions.{inRange, withinLimit, refers, zoneRefers, carRefers, namedBy, fieldVerdict, inPhase, firstInPhase, phaseUsed, phaseFollows, phasesRight, carAt, firstCar, lacksCount, firstLacking, countsVerdict, wholeVerdict}
+use Rattle.junction_places.specs.Places.{streamAt, countAt, zoneAt, streamNumbered, numbered-at, numbered}
 use Rattle.streams.specs.Kinds.{isCar}
 use Rattle.junction_places.specs.Ranks.{newestRank}
 use Rattle.junction_file.specs.Chosen.{chosen}
@@ -77,8 +77,9 @@ stream-ranges b h =
     (λ n4. absurd (false≢true (rw (n1, n2, n3, n4) at h))))))
 
 -- questions 5 and 7 of a zone and of a count
-zone-right : (b : List ℕ) (j : Junction) → zoneInRange b ≡ true → zoneRefers j (byteAt b 0) (byteAt b 1) ≡ true → ZoneRight j (zoneOf b)
-unfolding zoneInRange zoneOf numberIn zoneRefers exists
+zone-right : (b : List ℕ) (j : Junction) → zoneInRange b ≡ true
+    → zoneRefers (j .held .streams) (byteAt b 0) (byteAt b 1) (namedBy j b 0) (namedBy j b 1) ≡ true → ZoneRight j (zoneOf b)
+unfolding zoneInRange zoneOf numberIn zoneRefers numbered
 zone-right b j h e =
     let ranged = simp and-eq-true-iff at h in
     let facts = simp and-eq-true-iff at e in
@@ -89,8 +90,8 @@ zone-right b j h e =
       apart = eqb-false _ _ (not-true _ (facts .1));
     }
 
-count-right : (b : List ℕ) (j : Junction) → countInRange b ≡ true → countRefers j (byteAt b 0) ≡ true → CountRight j (countOf b)
-unfolding countInRange countOf numberIn countRefers exists
+count-right : (b : List ℕ) (j : Junction) → countInRange b ≡ true → carRefers (j .held .streams) (byteAt b 0) (namedBy j b 0) ≡ true → CountRight j (countOf b)
+unfolding countInRange countOf numberIn carRefers numbered
 count-right b j h e =
     let ranged = simp and-eq-true-iff at h in
     let facts = simp and-eq-true-iff at e in
@@ -182,7 +183,8 @@ module _ (b : List ℕ) (j : Junction) (r : FieldsRight j) where
   unfolding withZone streamAt
   zones-grown = record { more = omega arith; same = λ i h. refl }
 
-  with-zone-right : zoneInRange b ≡ true → j .held .zones < 64 → zoneRefers j (byteAt b 0) (byteAt b 1) ≡ true → FieldsRight (withZone b j)
+  with-zone-right : zoneInRange b ≡ true → j .held .zones < 64
+      → zoneRefers (j .held .streams) (byteAt b 0) (byteAt b 1) (namedBy j b 0) (namedBy j b 1) ≡ true → FieldsRight (withZone b j)
   unfolding withZone streamAt countAt zoneAt
   with-zone-right h room e =
       let grown = zone-grown j (withZone b j) zones-grown in
@@ -205,7 +207,7 @@ module _ (b : List ℕ) (j : Junction) (r : FieldsRight j) where
   unfolding withCount streamAt
   counts-grown = record { more = omega arith; same = λ i h. refl }
 
-  with-count-right : countInRange b ≡ true → j .held .counts < 128 → countRefers j (byteAt b 0) ≡ true → FieldsRight (withCount b j)
+  with-count-right : countInRange b ≡ true → j .held .counts < 128 → carRefers (j .held .streams) (byteAt b 0) (namedBy j b 0) ≡ true → FieldsRight (withCount b j)
   unfolding withCount streamAt countAt zoneAt
   with-count-right h room e =
       let grown = count-grown j (withCount b j) counts-grown in
@@ -259,7 +261,7 @@ Reached P size r = r .verdict ≡ Passed → P (r .junction) × (wholeVerdict si
 module _ (P : Junction → Type 0) (step : (tag : ℕ) (b : List ℕ) (j : Junction) → BodyPassed tag b j → P j → P (withField tag b j)) where
   field-reached : (s : List ℕ) (at : ℕ) (j : Junction) → P j → fieldVerdict s at j ≡ Passed → P (readField s at j .junction)
   unfolding readField afterField
-  field-reached s at j p e = rw e (step _ _ j (body-passed _ _ at j (field-passed s at j e .1)) p)
+  field-reached s at j p e = rw e (step _ _ j (field-passed s at j e .1) p)
 
   from-reached : (fuel : ℕ) (s : List ℕ) (at : ℕ) (j : Junction) → P j → Reached P (length s) (readFrom fuel s at j)
   unfolding readFrom atEnd

@@ -19,7 +19,8 @@ use Rattle.junction_places.specs.Places.{streamNumbered, numbered-at, zoneAt, z
 use Rattle.streams.specs.Kinds.{isCar}
 use Rattle.junction_file.specs.Taken.{Taken}
 use Rattle.junction_figures.specs.Figures.{streamNeed, streamRatio}
-use Rattle.junction_tables.specs.lemmas.Places.{stream-place, number-place, load-place, conflict-place}
+use Rattle.junction_file.specs.lemmas.Places.{stream-place, number-place}
+use Rattle.junction_tables.specs.lemmas.Places.{load-place, conflict-place}
 use Rattle.junction_tables.specs.Tables.{noConflict, conflictOf, conflictsOf, noLoad, loadsOf}
 use Rattle.junction_tables.specs.declared.Conflict.{Conflict}
 use Rattle.junction_tables.specs.declared.Conflicts.{Conflicts}

@@ -6,7 +6,7 @@ use Rattle.junction_questions.proofs.body_verdict.Tie as tie
 
 returns : tie.Need-returns
 unfolding bodyVerdict
-returns c = λ j w. simp (c .ask5 .ensures, c .before .in-order .ensures, c .before .before .ask4 .ensures, c .before .before .before .length-right .ensures, c .before .before .before .before .ask3 .ensures, c .before .before .before .before .before .in-range .ensures, c .before .before .before .before .before .before .ask2 .ensures, c .before .before .before .before .before .before .before .within-limit .ensures, c .before .before .before .before .before .before .before .before .ask .ensures, c .before .before .before .before .before .before .before .before .before .refers .ensures j w, w .holds)
+returns c = simp (c .ask5 .ensures, c .before .in-order .ensures, c .before .before .ask4 .ensures, c .before .before .before .length-right .ensures, c .before .before .before .before .ask3 .ensures, c .before .before .before .before .before .in-range .ensures, c .before .before .before .before .before .before .ask2 .ensures, c .before .before .before .before .before .before .before .within-limit .ensures, c .before .before .before .before .before .before .before .before .ask .ensures, c .before .before .before .before .before .before .before .before .before .refers .ensures)
 
 pub body-verdict-spec : {M : Type 1} → statement M
 body-verdict-spec =

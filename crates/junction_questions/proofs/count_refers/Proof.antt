@@ -6,9 +6,8 @@ use Rattle.junction_questions.proofs.count_refers.Tie as tie
 
 returns : tie.Need-returns
 unfolding countRefers
-returns c = simp (c .is-car .ensures, c .before .exists .ensures, c .before .before .stream-numbered .ensures)
+returns c = simp (c .refers-to-car .ensures, c .before .stream-numbered .ensures)
 
 pub count-refers-spec : {M : Type 1} → statement M
-count-refers-spec =
-    tie.close
-    (tie.spec (λ c κs. search needs) (λ c κs. search needs) (λ c κs. search needs) returns)
+count-refers-spec = tie.close
+    (tie.spec (λ c κs. search needs) (λ c κs. search needs) returns)

@@ -11,7 +11,7 @@ use Rattle.laws.specs.Filled.{filled, filled-none, filled-next}
 use Rattle.junction_places.specs.Blank.{noZone}
 use Rattle.junction_places.specs.Places.{zoneAt}
 use Rattle.junction_tables.specs.lemmas.Pairs.{pair-none, pair-more, pair-passed, pair-whole}
-use Rattle.junction_tables.specs.lemmas.Places.{zone-place, zone-right}
+use Rattle.junction_file.specs.lemmas.Places.{zone-place, zone-right}
 use Rattle.junction_tables.specs.Tables.{noConflict, conflictBy, conflictOf, conflictsOf}
 use Rattle.junction_tables.proofs.conflicts_of.Statement.{statement}
 use Rattle.junction_tables.proofs.conflicts_of.Tie as tie

@@ -6,7 +6,7 @@ use native.Mathlib.Omega.{arith}
 use lib.ListN.{replicate}
 use Rattle.laws.specs.Filled.{filled, filled-none, filled-next}
 use Rattle.junction_figures.specs.Figures.{streamFlow, streamSaturation, streamRatio}
-use Rattle.junction_tables.specs.lemmas.Places.{stream-place}
+use Rattle.junction_file.specs.lemmas.Places.{stream-place}
 use Rattle.junction_tables.specs.Tables.{noLoad, loadOf, loadsOf}
 use Rattle.junction_tables.proofs.loads_of.Statement.{statement}
 use Rattle.junction_tables.proofs.loads_of.Tie as tie

@@ -17,7 +17,7 @@ use Rattle.junction_places.specs.Blank.{noStream, noZone}
 use Rattle.junction_places.specs.Places.{streamNumbered}
 use Rattle.junction_file.specs.Taken.{Taken, ZoneRight}
 use Rattle.junction_figures.specs.Figures.{forward, backward, zoneEntry, pairEntry}
-use Rattle.junction_tables.specs.lemmas.Places.{number-place, zone-place, zone-right}
+use Rattle.junction_file.specs.lemmas.Places.{number-place, zone-place, zone-right}
 use Rattle.junction_tables.specs.Tables.{conflictOf, conflictBy, samePair, noEntries, oneZoneMore}
 
 -- zone y by the pair of zone z

@@ -25,15 +25,14 @@ returns c =
     e ∙ left-refused _ _ _ _ _ (c .before .before .before .before .loop .inv) (c .before .before .before .loop-test .taken)
     (ap isRefused (sym e) ∙ sym (c .before .refused .ensures) ∙ c .if1 .taken)
 
-field-end-requires : tie.Need-field-end-requires Inv-loop μ-loop
-field-end-requires c κs = c .before .before .before .before .loop .inv .inside
-
 loop-again : tie.Need-loop-again Inv-loop μ-loop
 loop-again c =
-    let e = c .before .before .before .green-verdict .ensures in
-    rw (c .field-end .ensures)
-    (left-turns _ _ _ _ _ (c .before .before .before .before .before .loop .inv) (c .before .before .before .before .loop-test .taken)
-    (ap isRefused (sym e) ∙ sym (c .before .before .refused .ensures) ∙ c .before .if1 .left))
+    let e = c .before .before .green-verdict .ensures in
+    left-turns _ _ _ _ _ (c .before .before .before .before .loop .inv) (c .before .before .before .loop-test .taken)
+    (ap isRefused (sym e) ∙ sym (c .before .refused .ensures) ∙ c .if1 .left)
+
+add-at : tie.Need-add-at Inv-loop μ-loop
+add-at c = omega (arith, loop-again c .inside)
 
 returns-2 : tie.Need-returns-2 Inv-loop μ-loop
 returns-2 c = c .ask .ensures ∙ left-ends _ _ _ _ _ (c .before .before .loop .inv) (c .before .loop-test .left)
@@ -41,5 +40,5 @@ returns-2 c = c .ask .ensures ∙ left-ends _ _ _ _ _ (c .before .before .loop .
 pub greens-verdict-spec : {M : Type 1} → statement M
 greens-verdict-spec =
     tie.close
-    (tie.spec Inv-loop μ-loop loop-holds (λ c. omega arith) green-verdict-requires (λ c κs. tt) returns field-end-requires
+    (tie.spec Inv-loop μ-loop loop-holds (λ c. omega arith) green-verdict-requires (λ c κs. tt) returns add-at
     (λ c. omega arith) (λ c. omega arith) loop-again (λ c κs. tt) returns-2)

@@ -1,7 +1,7 @@
 -- `plan_file::plan_byte` meets its contract: the test says whether the byte is of field 11.
 use borrow.Author.Needs.{needs}
 use borrow.Author.Tests.{lt-ltb, le-ltb}
-use Rattle.plan_file.specs.Writing.{planByte}
+use Rattle.plan_file.specs.lemmas.Bytes.{planByte}
 use Rattle.plan_file.proofs.plan_byte.Statement.{statement}
 use Rattle.plan_file.proofs.plan_byte.Tie as tie
 

@@ -5,7 +5,7 @@ use native.Mathlib.Nat.{le-antisymm}
 use native.Mathlib.Omega.{arith}
 use lib.ListN.{length}
 use Rattle.laws.specs.Filled.{filled, filled-none, filled-next, filled-length}
-use Rattle.plan_file.specs.Writing.{planByte}
+use Rattle.plan_file.specs.lemmas.Bytes.{planByte}
 use Rattle.plan_file.proofs.write_bytes.Statement.{statement}
 use Rattle.plan_file.proofs.write_bytes.Tie as tie
 
@@ -25,6 +25,9 @@ loop-holds c = (omega arith, simp filled-none)
 slice-write-out : tie.Need-slice-write-out Inv-loop μ-loop
 slice-write-out c = omega (arith, loop-length (c .before .before))
 
+plan-byte-requires : tie.Need-plan-byte-requires Inv-loop μ-loop
+plan-byte-requires c κs = omega (arith, c .before .before .before .pre .1, c .loop-test .taken)
+
 loop-again : tie.Need-loop-again Inv-loop μ-loop
 loop-again c = (omega arith, simp (c .plan-byte .ensures, c .before .before .loop .inv .1, filled-next))
 
@@ -39,5 +42,5 @@ returns c =
 pub write-bytes-spec : {M : Type 1} → statement M
 write-bytes-spec =
     tie.close
-    (tie.spec Inv-loop μ-loop loop-holds (λ c κs. tt) slice-write-out (λ c. omega arith) (λ c. omega arith) loop-again
+    (tie.spec Inv-loop μ-loop loop-holds plan-byte-requires slice-write-out (λ c. omega arith) (λ c. omega arith) loop-again
     same-length returns)

@@ -13,7 +13,7 @@ use Rattle.fields.specs.Verdict.{ask, later-same}
 use Rattle.fields.specs.declared.Verdict.the-variants.{Passed}
 use Rattle.plan_file.specs.lemmas.Passed.{due-passed, within-fits}
 use Rattle.plan_file.specs.Plans.{dueVerdict, cycleExpected, cycleVerdict, greenExpected, greenInRange, greenVerdict, greensFrom, planVerdict}
-use Rattle.plan_file.specs.WellFormed.{cycle-follows, places-follow}
+use Rattle.plan_file.specs.WellFormed.{cycle-follows, green-follows}
 
 -- past the end of every field that is looked at: it begins at 5 + 8 * 16 or before, and has three bytes and a body of at most 65535
 unfoldable pub enough : ℕ
@@ -75,7 +75,9 @@ module _ (s t : List ℕ) (a : SameStart s t) where
       let later = greens-same streams (i + 1) in
       rw (green-same (5 + 8 * i) (i + 1) (omega arith))
       (later-same (greenVerdict s (5 + 8 * i) (i + 1)) _ _
-      (λ p. rw (end-same (5 + 8 * i) (omega arith), places-follow s i (i + 1) (due-passed s (5 + 8 * i) _ _ .0 p .awaited)) (later (omega arith))))
+      (λ p. 
+      let eight : fieldEnd s (5 + 8 * i) ≡ 5 + 8 * (i + 1) = omega (arith, green-follows s (5 + 8 * i) (i + 1) (due-passed s (5 + 8 * i) _ _ .0 p .awaited)) in
+      rw (end-same (5 + 8 * i) (omega arith), eight) (later (omega arith))))
 
   plan-same : (streams : ℕ) → streams ≤ 16 → planVerdict t streams ≡ planVerdict s streams
   unfolding planVerdict cycleVerdict

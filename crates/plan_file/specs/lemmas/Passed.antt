@@ -1,14 +1,14 @@
 -- The field that is due passes exactly where it ends within the file, is the expected one and has its numbers in range.
-use Prim.Native.Nat.{ℕ, _+_, _≤_}
+use Prim.Native.Nat.{ℕ, _≤_}
 use native.Mathlib.Omega.{arith}
 use mathlib.Core.Bool.{Bool, true}
 use mathlib.Core.List.{List}
 use mathlib.Core.Logic.{_↔_}
-use mathlib.Core.Path.{_≡_}
+use mathlib.Core.Path.{_≡_, sym, _∙_}
 use lib.Dec.{ltb}
 use lib.ListN.{length}
 use borrow.Author.Tests.{le-leb, lt-ltb}
-use Rattle.fields.specs.Bytes.{fieldEnd, fits, fits-within, field-long}
+use Rattle.fields.specs.Bytes.{fieldEnd, fits, fits-within, field-long, fits-end}
 use Rattle.fields.specs.Verdict.{ask-passed}
 use Rattle.fields.specs.declared.Verdict.the-variants.{Passed}
 use Rattle.plan_file.specs.Plans.{dueVerdict}
@@ -19,8 +19,7 @@ pub record DuePassed (s : List ℕ) (at : ℕ) (expected inRange : Bool) : Type 
   pub ranged : inRange ≡ true
 
 pub within-fits : (s : List ℕ) (at : ℕ) → fieldEnd s at ≤ length s → fits s at ≡ true
-unfolding fits
-within-fits s at h = simp (le-leb (at + 3) (length s) (omega (arith, field-long s at)), le-leb _ _ h)
+within-fits s at h = sym (fits-end s at) ∙ le-leb _ _ h
 
 pub due-passed : (s : List ℕ) (at : ℕ) (expected inRange : Bool) → (dueVerdict s at expected inRange ≡ Passed) ↔ DuePassed s at expected inRange
 unfolding dueVerdict

@@ -5,9 +5,8 @@ use mathlib.Core.Path.{_≡_, refl, sym, _∙_, ap}
 use native.Mathlib.Omega.{arith}
 use Rattle.laws.specs.Search.{firstBelow, first-found, first-next, first-out}
 use Rattle.fields.specs.Verdict.{firstFailing}
-use Rattle.junction_tables.specs.lemmas.Places.{stream-place, load-place}
-use Rattle.plan_file.specs.WellFormed.{green-place}
 use Rattle.plan_rules.specs.Rules.{capacityMet}
+use Rattle.plan_rules.specs.lemmas.Places.{capacity-place}
 use Rattle.plan_rules.proofs.first_capacity_unmet.Statement.{statement}
 use Rattle.plan_rules.proofs.first_capacity_unmet.Tie as tie
 
@@ -41,12 +40,13 @@ mul-capacity-met-3 c = omega (arith, c .before .before .before .before .pre .0 .
 element-copy-out-capacity-met-3 : tie.Need-element-copy-out-capacity-met-3 Inv-loop μ-loop
 element-copy-out-capacity-met-3 c = omega (arith, c .before .before .before .before .pre .0 .fields .fewStreams)
 
-here : (c : tie.After-capacity-met Inv-loop μ-loop) → c .capacity-met .result ≡ capacityMet (c .before .before .before .before .before .before .args .t1) (c .before .before .before .before .before .before .args .t3) (c .before .before .before .before .before .loop .i + 1)
-unfolding capacityMet
+here : (c : tie.After-capacity-met Inv-loop μ-loop)
+    → c .capacity-met .result
+    ≡ capacityMet (c .before .before .before .before .before .before .args .t1) (c .before .before .before .before .before .before .args .t3)
+    (c .before .before .before .before .before .loop .i + 1)
 here c =
-    let i = c .before .before .before .before .before .loop .i in
-    let low = c .before .before .before .before .loop-test .taken in
-    simp (c .capacity-met .ensures, green-place (c .before .before .before .before .before .before .args .t3) i (omega (arith, c .before .before .before .before .before .before .pre .0 .fields .fewStreams)), c .before .before .before .before .before .before .pre .1, stream-place (c .before .before .before .before .before .before .args .t1) (c .before .before .before .before .before .before .pre .0) i low, load-place (c .before .before .before .before .before .before .args .t1) (c .before .before .before .before .before .before .pre .0) i low)
+    let l = c .before .before .before .before in
+    c .capacity-met .ensures ∙ capacity-place _ (l .before .before .pre .0) _ (l .before .loop .i) (l .before .before .pre .1) (l .loop-test .taken)
 
 returns : tie.Need-returns Inv-loop μ-loop
 returns c =

@@ -5,9 +5,8 @@ use mathlib.Core.Path.{_≡_, refl, sym, _∙_, ap}
 use native.Mathlib.Omega.{arith}
 use Rattle.laws.specs.Search.{firstBelow, first-found, first-next, first-out}
 use Rattle.fields.specs.Verdict.{firstFailing}
-use Rattle.junction_tables.specs.lemmas.Places.{stream-place}
-use Rattle.plan_file.specs.WellFormed.{green-place}
 use Rattle.plan_rules.specs.Rules.{needMet}
+use Rattle.plan_rules.specs.lemmas.Places.{need-place}
 use Rattle.plan_rules.proofs.first_need_unmet.Statement.{statement}
 use Rattle.plan_rules.proofs.first_need_unmet.Tie as tie
 
@@ -35,12 +34,13 @@ mul-need-met-2 c = omega (arith, c .before .before .before .pre .fields .fewStre
 element-copy-out-need-met-2 : tie.Need-element-copy-out-need-met-2 Inv-loop μ-loop
 element-copy-out-need-met-2 c = omega (arith, c .before .before .before .pre .fields .fewStreams)
 
-here : (c : tie.After-need-met Inv-loop μ-loop) → c .need-met .result ≡ needMet (c .before .before .before .before .before .args .t1) (c .before .before .before .before .before .args .t2) (c .before .before .before .before .loop .i + 1)
-unfolding needMet
+here : (c : tie.After-need-met Inv-loop μ-loop)
+    → c .need-met .result
+    ≡ needMet (c .before .before .before .before .before .args .t1) (c .before .before .before .before .before .args .t2)
+    (c .before .before .before .before .loop .i + 1)
 here c =
-    let i = c .before .before .before .before .loop .i in
-    let low = c .before .before .before .loop-test .taken in
-    simp (c .need-met .ensures, green-place (c .before .before .before .before .before .args .t2) i (omega (arith, c .before .before .before .before .before .pre .fields .fewStreams)), stream-place (c .before .before .before .before .before .args .t1) (c .before .before .before .before .before .pre) i low)
+    let l = c .before .before .before in
+    c .need-met .ensures ∙ need-place _ (l .before .before .pre) _ (l .before .loop .i) (l .loop-test .taken)
 
 returns : tie.Need-returns Inv-loop μ-loop
 returns c =

@@ -13,7 +13,7 @@ use Rattle.fields.specs.Verdict.{firstFailing}
 use Rattle.junction_places.specs.Blank.{noZone}
 use Rattle.junction_places.specs.Places.{zone-numbered-at}
 use Rattle.junction_tables.specs.lemmas.Pairs.{pair-none, pair-more, pair-passed, pair-whole}
-use Rattle.junction_tables.specs.lemmas.Places.{zone-place, zone-right}
+use Rattle.junction_file.specs.lemmas.Places.{zone-place, zone-right}
 use Rattle.junction_tables.specs.Tables.{conflictBy, conflictOf}
 use Rattle.plan_file.specs.WellFormed.{green-numbered}
 use Rattle.plan_rules.specs.Rules.{zoneMet}

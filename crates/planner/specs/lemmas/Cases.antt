@@ -13,16 +13,20 @@ use Rattle.fields.specs.Verdict.{ask-passed, isRefused, firstRefusal, first-ref
 use Rattle.fields.specs.declared.Verdict.the-variants.{Passed, Refused}
 use Rattle.junction.specs.declared.Junction.{Junction}
 use Rattle.phase_lengths.specs.First.{first-length-range}
-use Rattle.plan_file.specs.Writing.{hasRoom, written}
+use Rattle.plan_file.specs.Writing.{planSize, hasRoom, written}
 use Rattle.cycle_search.specs.Planning.{ratios, firstTried, planAt, works, cycleFrom, cycle, found}
 use Rattle.junction_file.specs.Reading.{reading}
-use Rattle.planner.specs.WorkingOut.{searched, calculation, junctionVerdict, junctionWorked, junctionBuffer, worked, buffer}
+use Rattle.planner.specs.WorkingOut.{searched, refusal, calculation, junctionVerdict, junctionWorked, junctionBuffer, worked, buffer}
 use Rattle.planner.specs.declared.Worked.{Worked}
 
 -- T0 is from 1 to 181
 pub first-tried-range : (j : Junction) → Between 1 181 (firstTried j)
 unfolding firstTried
 first-tried-range j = first-length-range _ _ _
+
+pub found-plan : (j : Junction) → cycle j < 181 → found j (firstTried j) .plan ≡ planAt j (cycle j)
+unfolding found cycle
+found-plan j low = rw (lt-ltb (cycleFrom j (firstTried j)) 181 low)
 
 pub found-cycle : (j : Junction) → found j (firstTried j) .cycle ≡ cycle j
 unfolding found cycle
@@ -53,12 +57,17 @@ module _ (j : Junction) (size : ℕ) where
   unfolding junctionVerdict calculation
   sum-passed h = rw (lt-ltb (ratios j) 10000 h)
 
-  pub worked-refused : isRefused (junctionVerdict j size) ≡ true → _≡_ {A = Worked} (record { verdict = junctionVerdict j size; cycle = 0; tried = 0 }) (junctionWorked j size)
+  pub worked-refused : isRefused (junctionVerdict j size) ≡ true → refusal (junctionVerdict j size) ≡ junctionWorked j size
   unfolding junctionWorked
   worked-refused e = rw e
 
   pub worked-passed : isRefused (junctionVerdict j size) ≡ false
-      → _≡_ {A = Worked} (record { verdict = junctionVerdict j size; cycle = found j (firstTried j) .cycle; tried = found j (firstTried j) .tried }) (junctionWorked j size)
+      → _≡_ {A = Worked} (record {
+        verdict = junctionVerdict j size;
+        cycle = found j (firstTried j) .cycle;
+        tried = found j (firstTried j) .tried;
+        size = planSize (j .held .streams);
+      }) (junctionWorked j size)
   unfolding junctionWorked
   worked-passed e = rw e
 
@@ -73,7 +82,7 @@ module _ (j : Junction) (lent : List ℕ) where
 
 module _ (junction : List ℕ) where
   pub file-refused : (size : ℕ) → isRefused (reading junction .verdict) ≡ true
-      → _≡_ {A = Worked} (record { verdict = reading junction .verdict; cycle = 0; tried = 0 }) (worked junction size)
+      → refusal (reading junction .verdict) ≡ worked junction size
   unfolding worked
   file-refused size e = rw e
 
