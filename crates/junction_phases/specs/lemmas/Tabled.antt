@@ -7,6 +7,8 @@ use mathlib.Core.Path.{_≡_, _∙_, ap}
 use lib.Dec.{leb, eqb}
 use lib.ListN.{getD, set}
 use borrow.Author.Tests.{eqb-true}
+use Rattle.limits.specs.Limits.{mostPhases}
+use Rattle.laws.specs.ByNumber.{ByNumber, by-number-same, raised}
 use Rattle.laws.specs.Largest.{largestOf, largest-same}
 use Rattle.laws.specs.Ranges.{Between}
 use Rattle.laws.specs.Tests.{by-test}
@@ -24,7 +26,6 @@ use Rattle.junction_tables.specs.Tables.{noConflict, conflictOf, conflictsOf, n
 use Rattle.junction_tables.specs.declared.Conflict.{Conflict}
 use Rattle.junction_tables.specs.declared.Conflicts.{Conflicts}
 use Rattle.junction_tables.specs.declared.Loads.{Loads}
-use Rattle.junction_phases.specs.lemmas.ByPhase.{ByPhase, by-phase-same, raised}
 use Rattle.junction_phases.specs.JunctionPhases.{largestStream, isPedestrianOrTram, isIn, carIn, phaseRatio, phaseNeed, phaseCount, hasPedestrianOrTram, phaseAfter, nextPhase, entryBetween, phaseEntry}
 use Rattle.junction_phases.specs.lemmas.Zones.{zoneFigure, zonesEntry, zones-enough}
 
@@ -83,16 +84,16 @@ one-way count f a b x = by-test (eqb a f) (λ e. rw (e, eqb-true a f e)) (λ e. 
 
 -- a zone raises the entries of the phases of its streams, one after the other
 pub zone-raised : (number : ℕ → ℕ) (l : List ℕ) (streams : List Stream) (c : Conflict) (count y z : ℕ)
-    → ByPhase number l → ZonePhases streams c
+    → ByNumber mostPhases number l → ZonePhases streams c
     → let a = phaseOf streams (c .a) in
     let b = phaseOf streams (c .b) in
     y ≡ max (getD l (a - 1) 0) (onward count a b (c .atob))
     → z ≡ max (getD (set l (a - 1) y) (b - 1) 0) (onward count b a (c .btoa))
-    → ByPhase (λ f. max (number f) (entryBy streams count f c)) (set (set l (a - 1) y) (b - 1) z)
+    → ByNumber mostPhases (λ f. max (number f) (entryBy streams count f c)) (set (set l (a - 1) y) (b - 1) z)
 zone-raised number l streams c count y z before zone atob btoa =
     let a = phaseOf streams (c .a) in
     let b = phaseOf streams (c .b) in
-    by-phase-same _ _ _ (raised _ b _ z _ (raised number a _ y l before (zone .phaseA) atob) (zone .phaseB) btoa)
+    by-number-same _ _ _ (raised _ b _ z _ (raised number a _ y l before (zone .phaseA) atob) (zone .phaseB) btoa)
     (λ f. rw (one-way count f a b (c .atob), one-way count f b a (c .btoa)) (omega arith))
 
 module _ (j : Junction) (taken : Taken j) where
