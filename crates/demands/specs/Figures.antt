@@ -62,7 +62,8 @@ pub record FiguresExact (junction : List ℕ) : Type 0 where
       → (k ≤ saturationAnswer junction n .value) ↔ (k * denominator c ≤ numerator c)
   -- a car's flow is that of the count with the greatest count day not after the design day, of equals the larger, by the file's bytes
   pub flow : (n : ℕ) → countRefers (junctionOf junction) n ≡ true
-      → FlowOf junction n (junctionOf junction .held .streams + junctionOf junction .held .zones) (junctionOf junction .held .counts) (streamFlow (junctionOf junction) n)
+      → let held = junctionOf junction .held in
+      FlowOf junction n (held .streams + held .zones) (held .counts) (streamFlow (junctionOf junction) n)
   -- a flow ratio is the least whole number of ten-thousandths that is at least flow/S (29)
   pub ratio : (n : ℕ) → countRefers (junctionOf junction) n ≡ true → (c : CarFigures)
       → streamNumbered (junctionOf junction) n .kind ≡ Car c → (k : ℕ)

@@ -18,7 +18,8 @@ use Rattle.plan_file.specs.Plans.{cycleInRange}
 use Rattle.plan_judge.specs.Judgement.{judgement}
 use Rattle.plan_judge.specs.Numbers.{number-accepted}
 use Rattle.junction_figures.specs.Figures.{pairEntry, streamNeed, streamSaturation, streamRatio}
-use Rattle.givendra.specs.Answers.{judgeAnswer, figure, intergreenVerdict, needVerdict, carVerdict, intergreenAnswer, needAnswer, saturationAnswer, ratioAnswer}
+use Rattle.givendra.specs.Answers.{figure, intergreenVerdict, needVerdict, carVerdict}
+use Rattle.givendra.specs.Answers.{judgeAnswer, intergreenAnswer, needAnswer, saturationAnswer, ratioAnswer}
 
 -- the plan is accepted exactly where the judge's refusal is 0
 pub judge-accepts : (junction plan : List ℕ) → (judgeAnswer junction plan .refusal ≡ 0) ↔ (judgement junction plan ≡ Passed)

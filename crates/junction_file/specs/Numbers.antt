@@ -13,7 +13,8 @@ use Rattle.fields.specs.Verdict.{numberOf, isRefused}
 use Rattle.fields.specs.declared.Verdict.the-variants.{Passed}
 use Rattle.junction.specs.declared.Junction.{Junction}
 use Rattle.junction_places.specs.Blank.{blank}
-use Rattle.junction_questions.specs.Questions.{inOrder, lengthRight, inRange, withinLimit, refers, bodyVerdict, fieldVerdict, firstLacking, countsVerdict, whole, wholeVerdict}
+use Rattle.junction_questions.specs.Questions.{inOrder, lengthRight, inRange, withinLimit, refers, bodyVerdict, fieldVerdict}
+use Rattle.junction_questions.specs.Questions.{firstLacking, countsVerdict, whole, wholeVerdict}
 use Rattle.junction_file.specs.Reading.{afterField, readField, atEnd, readFrom, reading}
 
 field-numbered : (s : List ℕ) (at : ℕ) (j : Junction) → Numbered (fieldVerdict s at j)

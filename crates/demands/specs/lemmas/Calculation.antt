@@ -116,8 +116,11 @@ module _ (junction : List ℕ) (is : reading junction .verdict ≡ Passed) where
         let three = ask-none (ltb (ratios j) 10000) (ltb (cycle j) 181) (hasRoom (j .held .streams) (length lent)) .0 (sym verdict-is ∙ e) in
         let low : cycle j < 181 = ltb-true _ _ (three .1) in
         let passed : junctionVerdict j (length lent) ≡ Passed = unfold junctionVerdict calculation in (sym verdict-is ∙ e) in
-        let w : worked junction (length lent) ≡ record { verdict = junctionVerdict j (length lent); cycle = cycle j; tried = found j (firstTried j) .tried } =
-        sym (worked-passed j (length lent) (ap isRefused passed) ∙ file-taken junction (length lent) (ap isRefused is)) ∙ ap (λ c. record { verdict = junctionVerdict j (length lent); cycle = c; tried = found j (firstTried j) .tried }) (found-cycle j) in
+        let verdict = junctionVerdict j (length lent) in
+        let tried = found j (firstTried j) .tried in
+        let searched = worked-passed j (length lent) (ap isRefused passed) ∙ file-taken junction (length lent) (ap isRefused is) in
+        let w : worked junction (length lent) ≡ record { verdict = verdict; cycle = cycle j; tried = tried } =
+        sym searched ∙ ap (λ c. record { verdict = verdict; cycle = c; tried = tried }) (found-cycle j) in
         let works = cycle-works j low in
         let first = first-tried-range j in
         let bounds = tried-bounds j low in

@@ -80,10 +80,12 @@ module _ (junction : List ℕ) where
       first-told R (reading junction .verdict) v (told-more _ R (λ n p. of-junction) (reading junction .verdict) (junction-told junction)) (λ e. t)
 
   module _ (from to : ℕ) where
-    pub intergreen-answer : firstRefusal (reading junction .verdict) (intergreenVerdict (reading junction .junction) from to) ≡ answer (intergreenAsked junction from to)
+    pub intergreen-answer : firstRefusal (reading junction .verdict) (intergreenVerdict (reading junction .junction) from to)
+        ≡ answer (intergreenAsked junction from to)
     intergreen-answer = own-answer _ _ (unfold answer intergreenVerdict in refl)
 
-    pub intergreen-told : Told (FigurePlace junction (λ p. (p ≡ from) ⊎ (p ≡ to)) ⊥) (firstRefusal (reading junction .verdict) (intergreenVerdict (reading junction .junction) from to))
+    pub intergreen-told : Told (FigurePlace junction (λ p. (p ≡ from) ⊎ (p ≡ to)) ⊥)
+        (firstRefusal (reading junction .verdict) (intergreenVerdict (reading junction .junction) from to))
     unfolding intergreenVerdict
     intergreen-told =
         let j = reading junction .junction in
@@ -95,7 +97,8 @@ module _ (junction : List ℕ) where
     pub need-answer : firstRefusal (reading junction .verdict) (needVerdict (reading junction .junction) n cycle) ≡ answer (needAsked junction n cycle)
     need-answer = own-answer _ _ (unfold answer needVerdict in refl)
 
-    pub need-told : Told (FigurePlace junction (λ p. p ≡ n) (Unit {0})) (firstRefusal (reading junction .verdict) (needVerdict (reading junction .junction) n cycle))
+    pub need-told : Told (FigurePlace junction (λ p. p ≡ n) (Unit {0}))
+        (firstRefusal (reading junction .verdict) (needVerdict (reading junction .junction) n cycle))
     unfolding needVerdict
     need-told =
         let j = reading junction .junction in

@@ -105,7 +105,8 @@ module _ (junction plan : List ℕ) where
       )
 
   module _ (k : ℕ) where
-    zones-never : (m : ℕ) → (17 ≡ m → ⊥) → (i : ℕ) → askEach (zoneMet (reading junction .junction) (planOf plan)) 17 (reading junction .junction .held .zones) Passed ≡ Refused m i → ⊥
+    zones-never : (m : ℕ) → (17 ≡ m → ⊥) → (i : ℕ)
+        → askEach (zoneMet (reading junction .junction) (planOf plan)) 17 (reading junction .junction .held .zones) Passed ≡ Refused m i → ⊥
     zones-never m other i e = true≢false (sym (ap isRefused (each-later _ 17 _ Passed m i other .0 e .1)))
 
     pub need-refused : (judgement junction plan ≡ Refused 15 k)
@@ -127,8 +128,9 @@ module _ (junction plan : List ℕ) where
     capacity-refused =
         let j = reading junction .junction in
         let p = planOf plan in
-        let needs = each-later (needMet j p) 15 (j .held .streams) (askEach (capacityMet j p) 16 (j .held .streams) (askEach (zoneMet j p) 17 (j .held .zones) Passed)) 16 k (omega arith) in
-        let own = each-exact (capacityMet j p) 16 (j .held .streams) (askEach (zoneMet j p) 17 (j .held .zones) Passed) (zones-never 16 (omega arith)) k in
+        let last = askEach (zoneMet j p) 17 (j .held .zones) Passed in
+        let needs = each-later (needMet j p) 15 (j .held .streams) (askEach (capacityMet j p) 16 (j .held .streams) last) 16 k (omega arith) in
+        let own = each-exact (capacityMet j p) 16 (j .held .streams) last (zones-never 16 (omega arith)) k in
         let all = rules-first 16 k (omega arith) in (
           λ e. let a = all .0 e in let b = needs .0 (a .1) in (a .0, b .0, own .0 (b .1)),
           λ h. all .1 (h .0, needs .1 (h .1, own .1 (h .2))),

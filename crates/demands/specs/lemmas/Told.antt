@@ -15,7 +15,8 @@ use Rattle.fields.specs.declared.Verdict.{Verdict}
 use Rattle.fields.specs.declared.Verdict.the-variants.{Passed, Refused}
 use Rattle.junction.specs.declared.Junction.{Junction}
 use Rattle.junction_places.specs.Blank.{blank}
-use Rattle.junction_questions.specs.Questions.{inOrder, lengthRight, inRange, withinLimit, refers, bodyVerdict, fieldVerdict, firstLacking, countsVerdict, whole, wholeVerdict}
+use Rattle.junction_questions.specs.Questions.{inOrder, lengthRight, inRange, withinLimit, refers, bodyVerdict, fieldVerdict}
+use Rattle.junction_questions.specs.Questions.{firstLacking, countsVerdict, whole, wholeVerdict}
 use Rattle.junction_file.specs.Reading.{afterField, readField, atEnd, readFrom, reading}
 use Rattle.plan_file.specs.Plans.{dueVerdict, cycleVerdict, greenVerdict, greensFrom, planVerdict, planOf}
 use Rattle.plan_file.specs.Writing.{hasRoom}

@@ -45,7 +45,8 @@ loop-again : tie.Need-loop-again Inv-loop μ-loop
 loop-again c =
     let l = c .before .before .before .before .before .loop in (
       omega arith,
-      by-number-next _ (l .i) _ (raised _ _ _ _ (l .needs) (l .inv .1) (range (c .before .before .before .before)) (simp (c .u32-larger .ensures, c .before .need .ensures))),
+      by-number-next _ (l .i) _
+          (raised _ _ _ _ (l .needs) (l .inv .1) (range (c .before .before .before .before)) (simp (c .u32-larger .ensures, c .before .need .ensures))),
     )
 
 returns : tie.Need-returns Inv-loop μ-loop

@@ -17,7 +17,8 @@ use Rattle.junction_places.specs.Places.{numbered-at}
 use Rattle.junction_file.specs.Taken.{Taken}
 use Rattle.phase_lengths.specs.Phases.{noPhase}
 use Rattle.phase_lengths.specs.declared.Phase.{Phase}
-use Rattle.junction_phases.specs.JunctionPhases.{isIn, carIn, hasCars, phaseRatio, phaseNeed, phaseCount, nextPhase, phaseEntry, intergreen, phaseAt, phasesAt}
+use Rattle.junction_phases.specs.JunctionPhases.{isIn, carIn, hasCars, phaseRatio, phaseNeed, phaseCount}
+use Rattle.junction_phases.specs.JunctionPhases.{nextPhase, phaseEntry, intergreen, phaseAt, phasesAt}
 use Rattle.junction_phases.specs.Meaning.{ratio-largest, cars-none}
 use Rattle.junction_phases.specs.lemmas.Placed.{few-phases, phases-filled}
 use Rattle.junction_phases.specs.lemmas.Right.{no-cars, ratio-some}

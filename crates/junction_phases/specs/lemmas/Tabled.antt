@@ -26,7 +26,8 @@ use Rattle.junction_tables.specs.Tables.{noConflict, conflictOf, conflictsOf, n
 use Rattle.junction_tables.specs.declared.Conflict.{Conflict}
 use Rattle.junction_tables.specs.declared.Conflicts.{Conflicts}
 use Rattle.junction_tables.specs.declared.Loads.{Loads}
-use Rattle.junction_phases.specs.JunctionPhases.{largestStream, isPedestrianOrTram, isIn, carIn, phaseRatio, phaseNeed, phaseCount, hasPedestrianOrTram, phaseAfter, nextPhase, entryBetween, phaseEntry}
+use Rattle.junction_phases.specs.JunctionPhases.{largestStream, isPedestrianOrTram, isIn, carIn, phaseRatio, phaseNeed, phaseCount}
+use Rattle.junction_phases.specs.JunctionPhases.{hasPedestrianOrTram, phaseAfter, nextPhase, entryBetween, phaseEntry}
 use Rattle.junction_phases.specs.lemmas.Zones.{zoneFigure, zonesEntry, zones-enough}
 
 -- of the first n streams, the largest figure of those of phase f; the needed greens at a cycle; the flow ratios of cars
@@ -37,7 +38,9 @@ abbrev pub needsBy : List Stream → ℕ → ℕ → ℕ → ℕ
 needsBy streams t = largestIn streams (λ i. needAt t (getD streams i noStream))
 
 abbrev pub ratiosBy : List Stream → Loads → ℕ → ℕ → ℕ
-ratiosBy streams loads = largestIn streams (λ i. cond (isCar (getD streams i noStream .kind)) (flowRatio (getD (loads .of) i noLoad .flow) (getD (loads .of) i noLoad .saturation)) 0)
+ratiosBy streams loads =
+    largestIn streams (λ i. cond (isCar (getD streams i noStream .kind))
+    (flowRatio (getD (loads .of) i noLoad .flow) (getD (loads .of) i noLoad .saturation)) 0)
 
 -- the phase of the stream with a number, from 1
 abbrev phaseOf : List Stream → ℕ → ℕ
@@ -108,7 +111,8 @@ module _ (j : Junction) (taken : Taken j) where
   pub pedestrian-or-tram-tabled : leb 1 (largestOf (λ i. cond (isPedestrianOrTram (getD (j .streams) i noStream .kind)) 1 0) (j .held .streams))
       ≡ hasPedestrianOrTram j
   unfolding hasPedestrianOrTram
-  pedestrian-or-tram-tabled = ap (leb 1) (figures-tabled _ (λ n. cond (isPedestrianOrTram (streamNumbered j n .kind)) 1 0) (λ i low. rw (stream-place j taken i low)))
+  pedestrian-or-tram-tabled =
+      ap (leb 1) (figures-tabled _ (λ n. cond (isPedestrianOrTram (streamNumbered j n .kind)) 1 0) (λ i low. rw (stream-place j taken i low)))
 
   pub needs-tabled : (t f : ℕ) → needsBy (j .streams) t (j .held .streams) f ≡ phaseNeed j f t
   unfolding phaseNeed isIn streamNeed

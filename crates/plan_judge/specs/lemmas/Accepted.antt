@@ -130,7 +130,8 @@ module _ (j : Junction) (t : Taken j) (p : Plan) (r : PlanRight p (j .held .stre
       unfolding Apart Before begins ends
       leaves-atob x =
           ⊎-elim
-          (λ (h : Before j p a b (d .clearingA) (d .reachingB) (found .k) (found .m)). subst (LeavesInTime _ _ (d .clearingA) (d .reachingB)) (found .gap) (h .1))
+          (λ (h : Before j p a b (d .clearingA) (d .reachingB) (found .k) (found .m)).
+          subst (LeavesInTime _ _ (d .clearingA) (d .reachingB)) (found .gap) (h .1))
           (λ (h : Before j p b a (d .clearingB) (d .reachingA) (found .m) (found .k)). absurd (found .order (h .0)))
           x
 
@@ -140,7 +141,8 @@ module _ (j : Junction) (t : Taken j) (p : Plan) (r : PlanRight p (j .held .stre
       leaves-btoa x =
           ⊎-elim
           (λ (h : Before j p a b (d .clearingA) (d .reachingB) (back .k) (back .m)). absurd (back .order (h .0)))
-          (λ (h : Before j p b a (d .clearingB) (d .reachingA) (back .m) (back .k)). subst (LeavesInTime _ _ (d .clearingB) (d .reachingA)) (back .gap) (h .1))
+          (λ (h : Before j p b a (d .clearingB) (d .reachingA) (back .m) (back .k)).
+          subst (LeavesInTime _ _ (d .clearingB) (d .reachingA)) (back .gap) (h .1))
           x
 
       room-atob : Apart j p a b d (found .k) (found .m) → greenOf p a .length ≤ after
