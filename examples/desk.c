@@ -18,11 +18,10 @@ int main(int argc, char **argv)
         return 1;
     }
     printf("cycle %u\n", worked.cycle);
-    size_t streams = givendra_read_junction(junction, length).streams;
-    for (const uint8_t *green = plan + 8; green < plan + GIVENDRA_PLAN_LENGTH(streams); green += 8)
+    for (const uint8_t *green = plan + 8; green < plan + worked.size; green += 8)
         printf("%u %u %u\n", green[0], green[1] << 8 | green[2], green[3] << 8 | green[4]);
 
-    struct givendra_judge_answer judged = givendra_judge(junction, length, plan, GIVENDRA_PLAN_LENGTH(streams));
+    struct givendra_judge_answer judged = givendra_judge(junction, length, plan, worked.size);
     printf("%s\n", judged.refusal ? "refused" : "accepted");
     printf("intergreen from 1 to 2: %u s\n", givendra_intergreen(junction, length, 1, 2).value);
     return 0;

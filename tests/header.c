@@ -63,9 +63,10 @@ static void layout(void)
 {
     printf("judge_answer: size %zu place %zu refusal %zu\n", sizeof(struct givendra_judge_answer),
            offsetof(struct givendra_judge_answer, place), offsetof(struct givendra_judge_answer, refusal));
-    printf("plan_answer: size %zu place %zu refusal %zu cycle %zu tried %zu\n", sizeof(struct givendra_plan_answer),
+    printf("plan_answer: size %zu place %zu refusal %zu cycle %zu tried %zu size %zu\n", sizeof(struct givendra_plan_answer),
            offsetof(struct givendra_plan_answer, place), offsetof(struct givendra_plan_answer, refusal),
-           offsetof(struct givendra_plan_answer, cycle), offsetof(struct givendra_plan_answer, tried));
+           offsetof(struct givendra_plan_answer, cycle), offsetof(struct givendra_plan_answer, tried),
+           offsetof(struct givendra_plan_answer, size));
     printf("junction_answer: size %zu place %zu refusal %zu design_day %zu streams %zu zones %zu counts %zu\n",
            sizeof(struct givendra_junction_answer), offsetof(struct givendra_junction_answer, place),
            offsetof(struct givendra_junction_answer, refusal), offsetof(struct givendra_junction_answer, design_day),
@@ -154,7 +155,8 @@ static void work_out(struct file j, size_t buffer_length)
     uint8_t memory[GIVENDRA_PLAN_LENGTH(2) + 3];
     memset(memory, 0xa5, sizeof memory);
     struct givendra_plan_answer a = givendra_work_out(j.bytes, j.length, memory, buffer_length);
-    printf("work_out, %s, %zu bytes: refusal %u place %zu cycle %u tried %u\n ", j.name, buffer_length, a.refusal, a.place, a.cycle, a.tried);
+    printf("work_out, %s, %zu bytes: refusal %u place %zu cycle %u tried %u size %zu\n ", j.name, buffer_length, a.refusal, a.place, a.cycle,
+           a.tried, a.size);
     for (size_t i = 0; i < sizeof memory; i++)
         printf(" %02x", memory[i]);
     printf("\n");

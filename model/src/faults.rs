@@ -71,10 +71,10 @@ pub fn faulty(r: &mut Random, file: &[u8], other: &[u8]) -> Vec<u8> {
             field.extend(body);
             out.splice(one, field);
         }
-        6 => out[one.start] = r.pick(&[0, 1, 2, 3, 4, 5, 0x10, 0x11, 0x12, 0x13, 0x81, 255]),
+        6 => out[one.start] = r.pick(&[0, 1, 2, 3, 4, 6, 0x10, 0x11, 0x12, 0x13, 0x81, 255]),
         7 => {
             // stray bytes at the end, or a field that does not belong there
-            let stray: &[&[u8]] = &[&[0], &[1], &[4, 0], &[0x12, 0, 5], &[0x12, 255, 255], &[4, 0, 0], &[0, 0, 0], &[5, 0, 1, 0]];
+            let stray: &[&[u8]] = &[&[0], &[1], &[4, 0], &[0x12, 0, 5], &[0x12, 255, 255], &[4, 0, 0], &[0, 0, 0], &[6, 0, 1, 0]];
             out.extend(r.pick(stray));
         }
         8 => out.truncate(r.from_to(0, file.len() as i64) as usize),

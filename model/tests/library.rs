@@ -83,11 +83,12 @@ fn check_working_out(r: &mut Random, hits: &mut Hits, junction: &Lent, size: usi
     let mut wanted = room;
     let model = known.work_out(&mut wanted);
     let (refusal, place) = number_and_place(&model);
+    let size_written = model.as_ref().map_or(0, |w| w.plan.to_file().len());
     let (cycle, least, most) = model.map_or((0, 0, 0), |w| (w.cycle as u16, w.tried_at_least as u16, w.tried as u16));
     // the tried count is free within its bounds
     let tried = answer.tried.clamp(least, most);
     let what = format!("work_out in {size} bytes, tried from {least} to {most}");
-    same(&what, answer, PlanAnswer { place, refusal, cycle, tried }, junction.bytes(), &[]);
+    same(&what, answer, PlanAnswer { place, refusal, cycle, tried, size: size_written }, junction.bytes(), &[]);
     same(&what, buffer.bytes(), &wanted[..], junction.bytes(), &[]);
     hits.hit("work_out", refusal);
 }

@@ -1,6 +1,6 @@
--- The figures that the second demand names, as the C library answers them for a junction file that is taken. `Clears` is the exact clearing
--- condition at a zone (junction_figures/specs/Exact.antt), `numerator` and `denominator` are base × gradient × conditions × Kturn over one
--- divisor (flows/specs/Meaning.antt).
+-- The figures that the second demand names, as the C library answers them for a junction file that is taken. `EnoughAt` is the exact clearing
+-- condition (`LeavesInTime` of exact_times/specs/Leaves.antt) with a zone's own streams and distances (junction_figures/specs/Exact.antt),
+-- `numerator` and `denominator` are base × gradient × conditions × Kturn over one divisor (flows/specs/Meaning.antt).
 use Prim.Native.Nat.{ℕ, _+_, _-_, _*_, _≤_, _<_}
 use native.Mathlib.Nat.{sub-add-cancel}
 use native.Mathlib.Omega.{arith}
@@ -27,8 +27,8 @@ use Rattle.junction_file.specs.Reading.{reading}
 use Rattle.junction_file.specs.TakenFile.{taken}
 use Rattle.junction_description.specs.File.{FlowOf}
 use Rattle.junction_description.specs.Flows.{flow-counted}
-use Rattle.junction_figures.specs.Exact.{Clears, pair-exact}
-use Rattle.junction_figures.specs.Figures.{forward, backward, streamNeed, streamFlow, streamSaturation, streamRatio}
+use Rattle.junction_figures.specs.Exact.{EnoughAt, pair-exact}
+use Rattle.junction_figures.specs.Figures.{streamNeed, streamFlow, streamSaturation, streamRatio}
 use Rattle.junction_figures.specs.Positive.{stream-ratio-least}
 use Rattle.plan_file.specs.Plans.{cycleInRange}
 use Rattle.givendra.specs.Answers.{figure, intergreenVerdict, needVerdict, carVerdict, intergreenAnswer, needAnswer, saturationAnswer, ratioAnswer}
@@ -41,11 +41,7 @@ pub record FiguresExact (junction : List ℕ) : Type 0 where
   -- an intergreen is the least whole number of seconds that is enough at each zone of the pair, by the exact times there (19)
   pub intergreen : (from to : ℕ) → exists (junctionOf junction) from ≡ true → exists (junctionOf junction) to ≡ true → (gap : ℕ)
       → (intergreenAnswer junction from to .value ≤ gap)
-      ↔ ((i : ℕ) → i < junctionOf junction .held .zones
-      → (forward from to (zoneAt (junctionOf junction) i) ≡ true
-      → Clears (junctionOf junction) (zoneAt (junctionOf junction) i .a) (zoneAt (junctionOf junction) i .b) gap)
-      × (backward from to (zoneAt (junctionOf junction) i) ≡ true
-      → Clears (junctionOf junction) (zoneAt (junctionOf junction) i .b) (zoneAt (junctionOf junction) i .a) gap))
+      ↔ ((i : ℕ) → i < junctionOf junction .held .zones → EnoughAt (junctionOf junction) from to (zoneAt (junctionOf junction) i) gap)
   -- a car's needed green is 8 s, a cyclist's 6 s
   pub car : (n cycle : ℕ) → exists (junctionOf junction) n ≡ true → cycleInRange cycle ≡ true
       → (c : CarFigures) → streamNumbered (junctionOf junction) n .kind ≡ Car c → needAnswer junction n cycle .value ≡ 8
@@ -66,7 +62,8 @@ pub record FiguresExact (junction : List ℕ) : Type 0 where
       → (k ≤ saturationAnswer junction n .value) ↔ (k * denominator c ≤ numerator c)
   -- a car's flow is that of the count with the greatest count day not after the design day, of equals the larger, by the file's bytes
   pub flow : (n : ℕ) → countRefers (junctionOf junction) n ≡ true
-      → FlowOf junction n (junctionOf junction .held .streams + junctionOf junction .held .zones) (junctionOf junction .held .counts) (streamFlow (junctionOf junction) n)
+      → let held = junctionOf junction .held in
+      FlowOf junction n (held .streams + held .zones) (held .counts) (streamFlow (junctionOf junction) n)
   -- a flow ratio is the least whole number of ten-thousandths that is at least flow/S (29)
   pub ratio : (n : ℕ) → countRefers (junctionOf junction) n ≡ true → (c : CarFigures)
       → streamNumbered (junctionOf junction) n .kind ≡ Car c → (k : ℕ)
@@ -75,11 +72,7 @@ pub record FiguresExact (junction : List ℕ) : Type 0 where
 module _ (junction : List ℕ) (is : reading junction .verdict ≡ Passed) where
   intergreen-exact : (from to : ℕ) → exists (junctionOf junction) from ≡ true → exists (junctionOf junction) to ≡ true → (gap : ℕ)
       → (intergreenAnswer junction from to .value ≤ gap)
-      ↔ ((i : ℕ) → i < junctionOf junction .held .zones
-      → (forward from to (zoneAt (junctionOf junction) i) ≡ true
-      → Clears (junctionOf junction) (zoneAt (junctionOf junction) i .a) (zoneAt (junctionOf junction) i .b) gap)
-      × (backward from to (zoneAt (junctionOf junction) i) ≡ true
-      → Clears (junctionOf junction) (zoneAt (junctionOf junction) i .b) (zoneAt (junctionOf junction) i .a) gap))
+      ↔ ((i : ℕ) → i < junctionOf junction .held .zones → EnoughAt (junctionOf junction) from to (zoneAt (junctionOf junction) i) gap)
   unfolding intergreenAnswer intergreenVerdict figure
   intergreen-exact from to one two gap = rw (is, one, two) (pair-exact (junctionOf junction) (taken junction is) from to gap)
 

@@ -12,15 +12,17 @@ pub data JunctionPlace (size streams : ℕ) : ℕ → ℕ → Type 0 where
   file : JunctionPlace size streams 8 size
   count : {p : ℕ} → Between 1 streams p → JunctionPlace size streams 9 p
 
--- a plan file of so many bytes, for so many streams and zones: 11 and 13 at a byte of the file, 12 there or at its length, 15 and 16 at
--- a stream, 17 at a zone
-pub data PlanPlace (size streams zones : ℕ) : ℕ → ℕ → Type 0 where
-  fit : {p : ℕ} → p < size → PlanPlace size streams zones 11 p
-  expected : {p : ℕ} → p ≤ size → PlanPlace size streams zones 12 p
-  range : {p : ℕ} → p < size → PlanPlace size streams zones 13 p
-  need : {p : ℕ} → Between 1 streams p → PlanPlace size streams zones 15 p
-  capacity : {p : ℕ} → Between 1 streams p → PlanPlace size streams zones 16 p
-  zone : {p : ℕ} → Between 1 zones p → PlanPlace size streams zones 17 p
+-- a plan file of so many bytes: 11 and 13 at a byte of the file, 12 there or at its length
+pub data PlanPlace (size : ℕ) : ℕ → ℕ → Type 0 where
+  fit : {p : ℕ} → p < size → PlanPlace size 11 p
+  expected : {p : ℕ} → p ≤ size → PlanPlace size 12 p
+  range : {p : ℕ} → p < size → PlanPlace size 13 p
+
+-- the rules, of so many streams and zones: 15 and 16 at a stream, 17 at a zone
+pub data RulePlace (streams zones : ℕ) : ℕ → ℕ → Type 0 where
+  need : {p : ℕ} → Between 1 streams p → RulePlace streams zones 15 p
+  capacity : {p : ℕ} → Between 1 streams p → RulePlace streams zones 16 p
+  zone : {p : ℕ} → Between 1 zones p → RulePlace streams zones 17 p
 
 -- the calculation: 21 to 23 at 0
 pub data CalculationPlace : ℕ → ℕ → Type 0 where
@@ -28,11 +30,11 @@ pub data CalculationPlace : ℕ → ℕ → Type 0 where
   no-cycle : CalculationPlace 22 0
   no-room : CalculationPlace 23 0
 
--- the judge's answer: a junction's, or a plan's
+-- the judge's answer: a junction's, a plan's, or a rule's
 pub data JudgePlace (junction plan : List ℕ) : ℕ → ℕ → Type 0 where
   of-junction : {n p : ℕ} → JunctionPlace (length junction) (reading junction .junction .held .streams) n p → JudgePlace junction plan n p
-  of-plan : {n p : ℕ} → PlanPlace (length plan) (reading junction .junction .held .streams) (reading junction .junction .held .zones) n p
-      → JudgePlace junction plan n p
+  of-plan : {n p : ℕ} → PlanPlace (length plan) n p → JudgePlace junction plan n p
+  of-rule : {n p : ℕ} → RulePlace (reading junction .junction .held .streams) (reading junction .junction .held .zones) n p → JudgePlace junction plan n p
 
 -- the planner's: a junction's, or the calculation's
 pub data WorkPlace (junction : List ℕ) : ℕ → ℕ → Type 0 where

@@ -1,3 +1,4 @@
+pub mod Leaves
 pub mod Numbers
 pub mod Streams
 pub mod lemmas

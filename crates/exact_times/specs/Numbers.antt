@@ -105,7 +105,11 @@ bounded q b z k s small large four =
     let b-pos : 1 ≤ b = omega arith in
     let cube : 0 < b * b * b = mul-pos (mul-pos b-pos b-pos) b-pos in
     let squared : z * z ≤ b * q * (b * q) = mul-le-mul small small in
-    omega (arith, mul-le-mul-left (8 * (k * k) * (b * b) * (s * s)) small, mul-le-mul-left (8 * k * b * (s * s)) squared, mul-le-mul-left (4 * (s * s)) squared, mul-le-mul-left (4 * (q * q) * (s * s) * (b * b)) b-pos, mul-le-mul-left (b * b * b) large)
+    let first = mul-le-mul-left (8 * (k * k) * (b * b) * (s * s)) small in
+    let second = mul-le-mul-left (8 * k * b * (s * s)) squared in
+    let third = mul-le-mul-left (4 * (s * s)) squared in
+    let fourth = mul-le-mul-left (4 * (q * q) * (s * s) * (b * b)) b-pos in
+    omega (arith, first, second, third, fourth, mul-le-mul-left (b * b * b) large)
 
 bounded-before : (q b z d s : ℕ) → z ≤ b * q → 4 * d * q * s + 4 * (q * q) * (s * s) < b
     → b * b * (b * b) ≤ 4 * d * (b * b) * z * s + 4 * (s * s) * (z * z) → ⊥
@@ -113,7 +117,10 @@ bounded-before q b z d s small large four =
     let b-pos : 1 ≤ b = omega arith in
     let cube : 0 < b * b * b = mul-pos (mul-pos b-pos b-pos) b-pos in
     let squared : z * z ≤ b * q * (b * q) = mul-le-mul small small in
-    omega (arith, mul-le-mul-left (4 * d * (b * b) * s) small, mul-le-mul-left (4 * (s * s)) squared, mul-le-mul-left (4 * (q * q) * (s * s) * (b * b)) b-pos, mul-le-mul-left (b * b * b) large)
+    let first = mul-le-mul-left (4 * d * (b * b) * s) small in
+    let second = mul-le-mul-left (4 * (s * s)) squared in
+    let third = mul-le-mul-left (4 * (q * q) * (s * s) * (b * b)) b-pos in
+    omega (arith, first, second, third, mul-le-mul-left (b * b * b) large)
 
 -- two roots over one denominator: √(p/s) is at most z/b where p b² ≤ z² s
 module _ (a p s : ℕ) where

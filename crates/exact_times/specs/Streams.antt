@@ -2,21 +2,24 @@
 use Prim.Native.Nat.{ℕ, _+_, _*_, _≤_, max}
 use native.Mathlib.Nat.{le-max-left}
 use native.Mathlib.Omega.{arith}
-use mathlib.Core.Bool.{true, false}
+use mathlib.Core.Bool.{false}
 use mathlib.Core.Logic.{_↔_}
-use mathlib.Core.Path.{_≡_}
+use mathlib.Core.Path.{_≡_, sym, _∙_}
 use lib.Dec.{leb, ltb, eqb}
-use borrow.Author.Tests.{lt-leb}
+use borrow.Author.Tests.{leb-true, le-leb, lt-leb}
 use Rattle.laws.specs.Tests.{by-test}
 use Rattle.streams.specs.declared.CarFigures.{CarFigures}
 use Rattle.streams.specs.declared.Kind.{Kind}
 use Rattle.streams.specs.declared.Kind.the-variants.{Car, Tram, Pedestrian, Cyclist}
+use Rattle.streams.specs.declared.Stream.{Stream}
 use Rattle.times.specs.Comparison.{ratioRatio, ratioWithin, within}
-use Rattle.times.specs.Least.{Moves}
+use Rattle.times.specs.Entry.{entry}
+use Rattle.times.specs.Least.{Moves, entry-least}
 use Rattle.times.specs.declared.Time.{Time}
 use Rattle.times.specs.declared.Time.the-variants.{Ratio}
 use Rattle.times.specs.Times.{carTime, carLeaving, stopLeaving, tramLeaving, leaving, passing, carReaching, tramReaching, countedReaching, reaching}
-use Rattle.exact_times.specs.Numbers.{Sound, Within, within-numbers}
+use Rattle.exact_times.specs.Leaves.{LeavesInTime, LeavesByLetter}
+use Rattle.exact_times.specs.Numbers.{Sound, within-numbers}
 
 leaving-sound : (k : Kind) (l : ℕ) → Moves k → Sound (leaving k l)
 unfolding leaving carLeaving carTime tramLeaving stopLeaving
@@ -35,11 +38,22 @@ reaching-sound (Tram t) r = by-test (t .stop) (λ e. rw e (omega arith)) (λ e. 
 reaching-sound (Pedestrian p) r = by-test (p .counted) (λ e. rw e (omega arith)) (λ e. rw e (omega arith))
 reaching-sound (Cyclist y) r = by-test (y .counted) (λ e. rw e (omega arith)) (λ e. rw e (omega arith))
 
--- from any stream that moves to any other, with any distances
-pub streams-compare : (from to : Kind) (clearing reach gap : ℕ) → Moves from
-    → (within (leaving from clearing) (reaching to reach) gap ≡ true) ↔ Within (leaving from clearing) (reaching to reach) gap
-streams-compare from to clearing reach gap m =
-    within-numbers (leaving from clearing) (reaching to reach) (leaving-sound from clearing m) (reaching-sound to reach) gap
+-- from any stream that moves to any other, with any distances: the letter of document 01 says the same as the comparison of the numbers
+pub letter-same : (earlier later : Stream) (clearing reach seconds : ℕ) → Moves (earlier .kind)
+    → LeavesByLetter earlier later clearing reach seconds ↔ LeavesInTime earlier later clearing reach seconds
+unfolding LeavesByLetter LeavesInTime
+letter-same earlier later clearing reach seconds moves =
+    within-numbers (leaving (earlier .kind) clearing) (reaching (later .kind) reach) (leaving-sound (earlier .kind) clearing moves)
+    (reaching-sound (later .kind) reach) seconds
+
+-- formula (19): so many seconds are at least the entry exactly where, after them, the last participant leaves in time
+pub entry-exact : (earlier later : Stream) (clearing reach : ℕ) → Moves (earlier .kind) → clearing ≤ 999 → (seconds : ℕ)
+    → (entry earlier later clearing reach ≤ seconds) ↔ LeavesInTime earlier later clearing reach seconds
+unfolding LeavesByLetter
+entry-exact earlier later clearing reach moves low seconds =
+    let least = entry-least earlier later clearing reach moves low seconds in
+    let numbers = letter-same earlier later clearing reach seconds moves in
+    (λ h. numbers .0 (least ∙ le-leb _ _ h), λ e. leb-true _ _ (sym least ∙ numbers .1 e))
 
 -- a straight car's time by formulas (1) and (6), at 50 km/h: 3 + 3.6(l + 60)/500 is 3 + 9(l + 60)/1250
 abbrev pub bySix : ℕ → Time

@@ -6,7 +6,7 @@ use mathlib.Core.Bool.{Bool, true}
 use mathlib.Core.List.{List}
 use mathlib.Core.Logic.{_↔_}
 use mathlib.Core.Path.{_≡_, refl}
-use Rattle.fields.specs.lemmas.Numbers.{Numbered, ask-numbered, first-numbered, numbered-more, passed-number}
+use Rattle.fields.specs.lemmas.Numbers.{Numbered, ask-numbered, first-numbered, passed-number}
 use Rattle.fields.specs.Verdict.{isRefused, ask, ask-passed, firstRefusal, both-passed}
 use Rattle.fields.specs.declared.Verdict.{Verdict}
 use Rattle.fields.specs.declared.Verdict.the-variants.{Passed}
@@ -18,7 +18,8 @@ use Rattle.plan_file.specs.Plans.{cycleInRange}
 use Rattle.plan_judge.specs.Judgement.{judgement}
 use Rattle.plan_judge.specs.Numbers.{number-accepted}
 use Rattle.junction_figures.specs.Figures.{pairEntry, streamNeed, streamSaturation, streamRatio}
-use Rattle.givendra.specs.Answers.{judgeAnswer, figure, intergreenVerdict, needVerdict, carVerdict, intergreenAnswer, needAnswer, saturationAnswer, ratioAnswer}
+use Rattle.givendra.specs.Answers.{figure, intergreenVerdict, needVerdict, carVerdict}
+use Rattle.givendra.specs.Answers.{judgeAnswer, intergreenAnswer, needAnswer, saturationAnswer, ratioAnswer}
 
 -- the plan is accepted exactly where the judge's refusal is 0
 pub judge-accepts : (junction plan : List ℕ) → (judgeAnswer junction plan .refusal ≡ 0) ↔ (judgement junction plan ≡ Passed)
@@ -37,14 +38,13 @@ pub figure-refused : (v : Verdict) (x : ℕ) → isRefused v ≡ true → figure
 unfolding figure
 figure-refused v x e = rw e
 
-figure-number : (v : Verdict) (x : ℕ) → Numbered 13 v → (figure v x .refusal ≡ 0) ↔ (v ≡ Passed)
+figure-number : (v : Verdict) (x : ℕ) → Numbered v → (figure v x .refusal ≡ 0) ↔ (v ≡ Passed)
 unfolding figure
-figure-number v x n = passed-number 13 v n
+figure-number v x n = passed-number v n
 
 -- the questions of a figure, after the junction's
-own-numbered : (junction : List ℕ) (own : Verdict) → Numbered 13 own → Numbered 13 (firstRefusal (reading junction .verdict) own)
-own-numbered junction own n =
-    first-numbered 13 (reading junction .verdict) own (numbered-more 9 13 (omega arith) (reading junction .verdict) (reading-numbered junction)) n
+own-numbered : (junction : List ℕ) (own : Verdict) → Numbered own → Numbered (firstRefusal (reading junction .verdict) own)
+own-numbered junction own n = first-numbered (reading junction .verdict) own (reading-numbered junction) n
 
 module _ (junction : List ℕ) where
   -- an intergreen is told exactly where the file is taken and both streams exist
@@ -57,7 +57,7 @@ module _ (junction : List ℕ) where
       let second = ask (exists j to) 7 to Passed in
       let own = ask (exists j from) 7 from second in
       let told = figure-number (firstRefusal (reading junction .verdict) own) (pairEntry j from to)
-      (own-numbered junction own (ask-numbered 13 (exists j from) 7 from second (omega arith) (ask-numbered 13 (exists j to) 7 to Passed (omega arith) tt))) in
+      (own-numbered junction own (ask-numbered (exists j from) 7 from second (omega arith) (ask-numbered (exists j to) 7 to Passed (omega arith) tt))) in
       let both = both-passed (reading junction .verdict) own in
       let first = asked (exists j from) 7 from second in
       let last = asked (exists j to) 7 to Passed in (
@@ -75,7 +75,7 @@ module _ (junction : List ℕ) where
       let second = ask (cycleInRange cycle) 13 0 Passed in
       let own = ask (exists j n) 7 n second in
       let told = figure-number (firstRefusal (reading junction .verdict) own) (streamNeed j n cycle)
-      (own-numbered junction own (ask-numbered 13 (exists j n) 7 n second (omega arith) (ask-numbered 13 (cycleInRange cycle) 13 0 Passed (omega arith) tt))) in
+      (own-numbered junction own (ask-numbered (exists j n) 7 n second (omega arith) (ask-numbered (cycleInRange cycle) 13 0 Passed (omega arith) tt))) in
       let both = both-passed (reading junction .verdict) own in
       let first = asked (exists j n) 7 n second in
       let last = asked (cycleInRange cycle) 13 0 Passed in (
@@ -91,7 +91,7 @@ module _ (junction : List ℕ) where
       let j = reading junction .junction in
       let own = ask (countRefers j n) 7 n Passed in
       let told = figure-number (firstRefusal (reading junction .verdict) own) x
-      (own-numbered junction own (ask-numbered 13 (countRefers j n) 7 n Passed (omega arith) tt)) in
+      (own-numbered junction own (ask-numbered (countRefers j n) 7 n Passed (omega arith) tt)) in
       let both = both-passed (reading junction .verdict) own in
       let first = asked (countRefers j n) 7 n Passed in (
         λ e. let b = both .0 (told .0 e) in (b .0, first .0 (b .1) .0),

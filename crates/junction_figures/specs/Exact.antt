@@ -4,17 +4,17 @@ use Prim.Native.Nat.{ℕ, _-_, _≤_, _<_, zero-le}
 use native.Mathlib.Omega.{arith}
 use mathlib.Core.Bool.{true, _&&_, false≢true}
 use mathlib.Core.Logic.{_↔_}
-use mathlib.Core.Path.{_≡_, refl, sym, _∙_}
+use mathlib.Core.Path.{_≡_, refl}
 use lib.Dec.{eqb}
-use borrow.Author.Tests.{leb-true, le-leb, eqb-true}
+use borrow.Author.Tests.{eqb-true}
+use Rattle.laws.specs.Ranges.{Between}
 use Rattle.laws.specs.Tests.{by-test, both-left, both-right}
 use Rattle.streams.specs.declared.Kind.{Kind}
 use Rattle.streams.specs.declared.Kind.the-variants.{Car, Tram, Pedestrian, Cyclist}
-use Rattle.exact_times.specs.Numbers.{Within}
-use Rattle.exact_times.specs.Streams.{streams-compare}
+use Rattle.exact_times.specs.Leaves.{LeavesInTime}
+use Rattle.exact_times.specs.Streams.{entry-exact}
 use Rattle.times.specs.Entry.{entry}
-use Rattle.times.specs.Least.{Moves, entry-least}
-use Rattle.times.specs.Times.{leaving, reaching}
+use Rattle.times.specs.Least.{Moves}
 use Rattle.junction.specs.declared.Junction.{Junction}
 use Rattle.junction.specs.declared.Side.{Side}
 use Rattle.junction.specs.declared.Zone.{Zone}
@@ -22,10 +22,13 @@ use Rattle.junction_places.specs.Places.{streamAt, streamNumbered, numbered-at,
 use Rattle.junction_file.specs.Taken.{KindRanges, SideRight, ZoneRight, Taken}
 use Rattle.junction_figures.specs.Figures.{forward, backward, zoneEntry, pairEntry, pair-least}
 
--- from one side of a zone to the other, that gap is enough
-unfoldable pub Clears : Junction → Side → Side → ℕ → Type 0
-Clears j x y gap =
-    Within (leaving (streamNumbered j (x .stream) .kind) (x .clearing)) (reaching (streamNumbered j (y .stream) .kind) (y .reaching)) gap
+-- at a zone of streams n and m, whichever of the two is its stream a, that gap is enough from n to m
+unfoldable pub EnoughAt : Junction → ℕ → ℕ → Zone → ℕ → Type 0
+EnoughAt j n m z gap =
+    let a = streamNumbered j (z .a .stream) in
+    let b = streamNumbered j (z .b .stream) in
+    (forward n m z ≡ true → LeavesInTime a b (z .a .clearing) (z .b .reaching) gap)
+    × (backward n m z ≡ true → LeavesInTime b a (z .b .clearing) (z .a .reaching) gap)
 
 moves : (k : Kind) → KindRanges k → Moves k
 moves (Car c) r = omega arith
@@ -34,27 +37,20 @@ moves (Pedestrian p) r = omega arith
 moves (Cyclist y) r = tt
 
 module _ (j : Junction) (t : Taken j) where
-  pub side-moves : (x : Side) → SideRight j x → Moves (streamNumbered j (x .stream) .kind)
-  side-moves x r =
-      rw (numbered-at j (x .stream) (r .existing .0))
-      (moves (streamAt j (x .stream - 1) .kind) (t .fields .streams (x .stream - 1) (omega arith) .figures))
+  pub stream-moves : (n : ℕ) → Between 1 (j .held .streams) n → Moves (streamNumbered j n .kind)
+  stream-moves n range = rw (numbered-at j n (range .0)) (moves (streamAt j (n - 1) .kind) (t .fields .streams (n - 1) (omega arith) .figures))
 
-  side-clears : (x y : Side) → SideRight j x → (gap : ℕ)
-      → (entry (streamNumbered j (x .stream)) (streamNumbered j (y .stream)) (x .clearing) (y .reaching) ≤ gap) ↔ Clears j x y gap
-  unfolding Clears
-  side-clears x y r gap =
-      let same = entry-least (streamNumbered j (x .stream)) (streamNumbered j (y .stream)) (x .clearing) (y .reaching) (side-moves x r) (r .clearing) gap in
-      let numbers = streams-compare (streamNumbered j (x .stream) .kind) (streamNumbered j (y .stream) .kind) (x .clearing) (y .reaching) gap (side-moves x r) in
-      (λ h. numbers .0 (same ∙ le-leb _ _ h), λ e. leb-true _ _ (sym same ∙ numbers .1 e))
+  side-exact : (x y : Side) → SideRight j x → (gap : ℕ)
+      → (entry (streamNumbered j (x .stream)) (streamNumbered j (y .stream)) (x .clearing) (y .reaching) ≤ gap)
+      ↔ LeavesInTime (streamNumbered j (x .stream)) (streamNumbered j (y .stream)) (x .clearing) (y .reaching) gap
+  side-exact x y r = entry-exact _ _ (x .clearing) (y .reaching) (stream-moves (x .stream) (r .existing)) (r .clearing)
 
   -- a zone of streams n and m
-  zone-exact : (n m gap : ℕ) (z : Zone) → ZoneRight j z
-      → (zoneEntry j n m z ≤ gap)
-      ↔ ((forward n m z ≡ true → Clears j (z .a) (z .b) gap) × (backward n m z ≡ true → Clears j (z .b) (z .a) gap))
-  unfolding zoneEntry forward backward
+  zone-exact : (n m gap : ℕ) (z : Zone) → ZoneRight j z → (zoneEntry j n m z ≤ gap) ↔ EnoughAt j n m z gap
+  unfolding zoneEntry EnoughAt forward backward
   zone-exact n m gap z r =
-      let onward = side-clears (z .a) (z .b) (r .a) gap in
-      let back = side-clears (z .b) (z .a) (r .b) gap in
+      let onward = side-exact (z .a) (z .b) (r .a) gap in
+      let back = side-exact (z .b) (z .a) (r .b) gap in
       by-test (eqb (z .a .stream) n && eqb (z .b .stream) m)
       (λ f.
       let n-is : z .a .stream ≡ n = eqb-true _ _ (both-left (eqb (z .a .stream) n) _ f) in
@@ -74,9 +70,7 @@ module _ (j : Junction) (t : Taken j) where
 -- a gap is at least the entry from stream n to stream m exactly where it is enough at each of their zones, whichever of the two is the
 -- zone's stream a
 pub pair-exact : (j : Junction) → Taken j → (n m gap : ℕ)
-    → (pairEntry j n m ≤ gap)
-    ↔ ((i : ℕ) → i < j .held .zones → (forward n m (zoneAt j i) ≡ true → Clears j (zoneAt j i .a) (zoneAt j i .b) gap)
-    × (backward n m (zoneAt j i) ≡ true → Clears j (zoneAt j i .b) (zoneAt j i .a) gap))
+    → (pairEntry j n m ≤ gap) ↔ ((i : ℕ) → i < j .held .zones → EnoughAt j n m (zoneAt j i) gap)
 pair-exact j t n m gap =
     let each = pair-least j n m gap in (
       λ h i low. zone-exact j t n m gap (zoneAt j i) (t .fields .zones i low) .0 (each .0 h i low),

@@ -1,4 +1,4 @@
--- The numbers of refusals: a junction file is refused with a number from 1 to 9, and number 0 says that it is taken.
+-- The numbers of refusals: a junction file is refused with a number of 1 or more, and number 0 says that it is taken.
 use Prim.Native.Nat.{ℕ, zero, suc, _+_}
 use native.Mathlib.Omega.{arith}
 use mathlib.Core.List.{List}
@@ -13,28 +13,29 @@ use Rattle.fields.specs.Verdict.{numberOf, isRefused}
 use Rattle.fields.specs.declared.Verdict.the-variants.{Passed}
 use Rattle.junction.specs.declared.Junction.{Junction}
 use Rattle.junction_places.specs.Blank.{blank}
-use Rattle.junction_questions.specs.Questions.{inOrder, lengthRight, inRange, withinLimit, refers, bodyVerdict, namedBy, fieldVerdict, firstLacking, countsVerdict, whole, wholeVerdict}
+use Rattle.junction_questions.specs.Questions.{inOrder, lengthRight, inRange, withinLimit, refers, bodyVerdict, namedBy, fieldVerdict}
+use Rattle.junction_questions.specs.Questions.{firstLacking, countsVerdict, whole, wholeVerdict}
 use Rattle.junction_file.specs.Reading.{afterField, readField, atEnd, readFrom, reading}
 
-field-numbered : (s : List ℕ) (at : ℕ) (j : Junction) → Numbered 9 (fieldVerdict s at j)
+field-numbered : (s : List ℕ) (at : ℕ) (j : Junction) → Numbered (fieldVerdict s at j)
 unfolding fieldVerdict bodyVerdict
 field-numbered s at j =
     let tag = byteAt s at in
     let b = bodyOf s at in
-    ask-numbered 9 (fits s at) 2 at _ (omega arith)
-    (ask-numbered 9 (inOrder (j .held .last) tag) 3 at _ (omega arith)
-    (ask-numbered 9 (lengthRight tag b) 4 at _ (omega arith)
-    (ask-numbered 9 (inRange tag b) 5 at _ (omega arith)
-    (ask-numbered 9 (withinLimit tag (j .held)) 6 at _ (omega arith)
-    (ask-numbered 9 (refers tag (j .held .streams) b (namedBy j b 0) (namedBy j b 1)) 7 at Passed (omega arith) tt)))))
+    ask-numbered (fits s at) 2 at _ (omega arith)
+    (ask-numbered (inOrder (j .held .last) tag) 3 at _ (omega arith)
+    (ask-numbered (lengthRight tag b) 4 at _ (omega arith)
+    (ask-numbered (inRange tag b) 5 at _ (omega arith)
+    (ask-numbered (withinLimit tag (j .held)) 6 at _ (omega arith)
+    (ask-numbered (refers tag (j .held .streams) b (namedBy j b 0) (namedBy j b 1)) 7 at Passed (omega arith) tt)))))
 
-end-numbered : (size : ℕ) (j : Junction) → Numbered 9 (atEnd size j .verdict)
+end-numbered : (size : ℕ) (j : Junction) → Numbered (atEnd size j .verdict)
 unfolding atEnd wholeVerdict countsVerdict
 end-numbered size j =
-    ask-numbered 9 (whole j) 8 size _ (omega arith)
-    (ask-numbered 9 (leb (j .held .streams) (firstLacking j)) 9 (firstLacking j + 1) Passed (omega arith) tt)
+    ask-numbered (whole j) 8 size _ (omega arith)
+    (ask-numbered (leb (j .held .streams) (firstLacking j)) 9 (firstLacking j + 1) Passed (omega arith) tt)
 
-from-numbered : (fuel : ℕ) (s : List ℕ) (at : ℕ) (j : Junction) → Numbered 9 (readFrom fuel s at j .verdict)
+from-numbered : (fuel : ℕ) (s : List ℕ) (at : ℕ) (j : Junction) → Numbered (readFrom fuel s at j .verdict)
 unfolding readFrom readField afterField
 from-numbered zero s at j = end-numbered (length s) j
 from-numbered (suc fuel) s at j =
@@ -44,11 +45,11 @@ from-numbered (suc fuel) s at j =
     (by-test (isRefused (fieldVerdict s at j)) (λ t. rw t (field-numbered s at j)) (λ t. rw t (later _))))
     (λ e. rw e (end-numbered (length s) j))
 
-pub reading-numbered : (s : List ℕ) → Numbered 9 (reading s .verdict)
+pub reading-numbered : (s : List ℕ) → Numbered (reading s .verdict)
 unfolding reading
 reading-numbered s =
     by-test (leb (length s) 16384) (λ e. rw e (from-numbered (length s) s 0 blank)) (λ e. rw e (omega arith))
 
 -- the answer's number is 0 exactly where the file is taken
 pub number-taken : (s : List ℕ) → (numberOf (reading s .verdict) ≡ 0) ↔ (reading s .verdict ≡ Passed)
-number-taken s = passed-number 9 (reading s .verdict) (reading-numbered s)
+number-taken s = passed-number (reading s .verdict) (reading-numbered s)

@@ -1,15 +1,13 @@
 -- The phases of a junction: y, M and need of each (document 01, "Working out a plan"). Phases, streams and zones have numbers from 1.
 use Prim.Native.Nat.{ℕ, _+_, min, max}
-use mathlib.Core.Bool.{Bool, true, false, _&&_, cond}
+use mathlib.Core.Bool.{Bool, _&&_, cond}
 use lib.Dec.{leb, ltb, eqb}
 use lib.ListN.{replicate}
 use Rattle.laws.specs.Filled.{filled}
 use Rattle.laws.specs.Largest.{largestOf}
-use Rattle.streams.specs.declared.Kind.{Kind}
-use Rattle.streams.specs.declared.Kind.the-variants.{Car, Tram, Pedestrian, Cyclist}
 use Rattle.junction.specs.declared.Junction.{Junction}
 use Rattle.junction_places.specs.Places.{streamNumbered}
-use Rattle.streams.specs.Kinds.{isCar}
+use Rattle.streams.specs.Kinds.{isCar, isPedestrianOrTram}
 use Rattle.junction_figures.specs.Figures.{pairEntry, streamNeed, streamRatio}
 use Rattle.phase_lengths.specs.Phases.{noPhase}
 use Rattle.phase_lengths.specs.declared.Phases.{Phases}
@@ -23,13 +21,6 @@ largestStream j figure = largestOf (λ i. figure (i + 1)) (j .held .streams)
 -- some stream passes a test
 abbrev pub someStream : Junction → (ℕ → Bool) → Bool
 someStream j test = leb 1 (largestStream j (λ n. cond (test n) 1 0))
-
--- pedestrians and trams
-abbrev pub isPedestrianOrTram : Kind → Bool
-isPedestrianOrTram (Car c) = false
-isPedestrianOrTram (Tram t) = true
-isPedestrianOrTram (Pedestrian p) = true
-isPedestrianOrTram (Cyclist y) = false
 
 -- stream n is in phase f; it is a car there
 unfoldable pub isIn : Junction → ℕ → ℕ → Bool

@@ -9,11 +9,12 @@ use borrow.Author.Tests.{leb-false, lt-leb, eq-eqb}
 use Rattle.laws.specs.Largest.{largest-at-most}
 use Rattle.laws.specs.Ranges.{Between}
 use Rattle.laws.specs.Tests.{by-test, both, both-left, both-right}
+use Rattle.streams.specs.Kinds.{isPedestrianOrTram}
 use Rattle.junction.specs.declared.Junction.{Junction}
 use Rattle.junction_places.specs.Places.{streamNumbered, numbered-at}
 use Rattle.junction_file.specs.Taken.{UsedPhase, Taken}
 use Rattle.junction_figures.specs.Figures.{pairEntry, streamNeed, streamRatio}
-use Rattle.junction_phases.specs.JunctionPhases.{largestStream, someStream, isPedestrianOrTram, isIn, carIn, hasCars, phaseRatio, phaseNeed, phaseCount, hasPedestrianOrTram, entryBetween, phaseEntry}
+use Rattle.junction_phases.specs.JunctionPhases.{largestStream, someStream, isIn, carIn, hasCars, phaseRatio, phaseNeed, phaseCount, hasPedestrianOrTram, entryBetween, phaseEntry}
 
 -- a number that counts only where a test passes
 pub only-at-most : (b : Bool) (v x : ℕ) → (cond b v 0 ≤ x) ↔ (b ≡ true → v ≤ x)

@@ -1,4 +1,3 @@
-pub mod ByPhase
 pub mod Made
 pub mod Placed
 pub mod Right

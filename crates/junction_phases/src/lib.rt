@@ -2,16 +2,17 @@
 // a plan"). Phases and streams are named by their numbers, from 1.
 ghost use mathlib.Core.Bool.{cond};
 ghost use mathlib.Core.Path.{_≡_};
-ghost use Prim.Native.Nat.{_≤_, max, min};
+ghost use Prim.Native.Nat.{_≤_, min};
 ghost use lib.ListN.{getD};
+ghost use Rattle.limits.specs.Limits.{mostPhases};
+ghost use Rattle.laws.specs.ByNumber.{ByNumber};
 ghost use Rattle.laws.specs.Largest.{largestOf};
 ghost use Rattle.streams.specs.Kinds.{isCar};
 ghost use Rattle.flows.specs.Saturation.{flowRatio};
 ghost use Rattle.junction_places.specs.Blank.{noStream};
 ghost use Rattle.junction_file.specs.Taken.{Taken};
 ghost use Rattle.junction_tables.specs.Tables.{conflictsOf, loadsOf};
-ghost use Rattle.junction_phases.specs.lemmas.ByPhase.{ByPhase};
-ghost use Rattle.junction_phases.specs.JunctionPhases.{isPedestrianOrTram, hasPedestrianOrTram, phaseAfter, phasesAt, withNeed};
+ghost use Rattle.junction_phases.specs.JunctionPhases.{hasPedestrianOrTram, phaseAfter, phasesAt, withNeed};
 ghost use Rattle.junction_phases.specs.lemmas.Made.{phaseWith};
 ghost use Rattle.junction_phases.specs.lemmas.Tabled.{needsBy, ratiosBy, entriesBy, onward as onwardBy, StreamPhases, ZonesPhases};
 use junction::Junction;
@@ -23,7 +24,6 @@ use limits::MOST_PHASES;
 use limits::MOST_STREAMS;
 use phase_lengths::Phase;
 use phase_lengths::Phases;
-use streams::Kind;
 use streams::Stream;
 
 // A number where a test passes, else 0.
@@ -31,18 +31,6 @@ fn only(test: bool, n: u32) -> u32
     ensures { λ r. ⌜ r ≡ cond test n 0 ⌝ }
 {
     if test { n } else { 0 }
-}
-
-fn is_pedestrian_or_tram(s: Stream) -> bool
-    ensures { λ r. ⌜ r ≡ isPedestrianOrTram (s .kind) ⌝ }
-{
-    let kind = s.kind;
-    match kind {
-        Kind::Car(_) => false,
-        Kind::Tram(_) => true,
-        Kind::Pedestrian(_) => true,
-        Kind::Cyclist(_) => false,
-    }
 }
 
 // Whether the junction has a pedestrian or a tram, so that (33) gives its first length.
@@ -55,7 +43,7 @@ pub fn has_pedestrian_or_tram(j: Junction) -> bool
     let mut i: usize = 0;
     while i < n {
         let s = j.streams[i];
-        most = u32_larger(most, only(is_pedestrian_or_tram(s), 1));
+        most = u32_larger(most, only(streams::is_pedestrian_or_tram(s), 1));
         i += 1;
     }
     1 <= most
@@ -108,7 +96,7 @@ fn car_ratio(s: Stream, load: Load) -> u32
 // The largest flow ratio of each phase's cars, by one pass over the streams.
 fn ratios_of(streams: [Stream; MOST_STREAMS], loads: Loads, n: usize) -> [u32; MOST_PHASES]
     requires { ⌜ StreamPhases streams n ⌝ }
-    ensures { λ r. ⌜ ByPhase (ratiosBy streams loads n) r ⌝ }
+    ensures { λ r. ⌜ ByNumber mostPhases (ratiosBy streams loads n) r ⌝ }
 {
     let mut ratios: [u32; MOST_PHASES] = [0; MOST_PHASES];
     let mut i: usize = 0;
@@ -124,7 +112,7 @@ fn ratios_of(streams: [Stream; MOST_STREAMS], loads: Loads, n: usize) -> [u32; M
 // The largest needed green of each phase's streams at a cycle, by one pass over the streams.
 fn needs_at(streams: [Stream; MOST_STREAMS], n: usize, t: u16) -> [u32; MOST_PHASES]
     requires { ⌜ StreamPhases streams n ⌝ }
-    ensures { λ r. ⌜ ByPhase (needsBy streams t n) r ⌝ }
+    ensures { λ r. ⌜ ByNumber mostPhases (needsBy streams t n) r ⌝ }
 {
     let mut needs: [u32; MOST_PHASES] = [0; MOST_PHASES];
     let mut i: usize = 0;
@@ -154,7 +142,7 @@ fn entries_of(
 ) -> [u32; MOST_PHASES]
     requires zones { ⌜ ZonesPhases streams conflicts zones ⌝ }
     requires count { ⌜ count ≤ 6 ⌝ }
-    ensures { λ r. ⌜ ByPhase (entriesBy streams conflicts count zones) r ⌝ }
+    ensures { λ r. ⌜ ByNumber mostPhases (entriesBy streams conflicts count zones) r ⌝ }
 {
     let mut entries: [u32; MOST_PHASES] = [0; MOST_PHASES];
     let mut i: usize = 0;

@@ -1,3 +1,4 @@
+pub mod ByNumber
 pub mod Filled
 pub mod Largest
 pub mod Ranges

@@ -32,10 +32,7 @@ fn answer(file: &[u8]) {
     let worked = planner::work_out(file, &mut out);
     let verdict = worked.verdict;
     match verdict {
-        Verdict::Passed => lines(
-            plan_file::plan_of(&out),
-            junction_file::read(file).junction.held.streams,
-        ),
+        Verdict::Passed => lines(plan_file::plan_of(&out), worked.size),
         Verdict::Refused { number, place } => refusal(number, place),
     }
 }
@@ -52,16 +49,17 @@ fn put(text: &[u8]) {
     io::write_all(STDOUT_FILENO, text);
 }
 
-fn lines(p: Plan, streams: usize) {
+fn lines(p: Plan, size: usize) {
     put(b"cycle ");
     io::print_decimal(STDOUT_FILENO, p.cycle as u64);
     put(b"\n");
-    greens(p, streams);
+    greens(p, size);
 }
 
-fn greens(p: Plan, streams: usize) {
+// A line for each green of a plan file of so many bytes.
+fn greens(p: Plan, size: usize) {
     for i in 0..MOST_STREAMS {
-        if i < streams {
+        if 5 + 8 * i < size {
             line(p, i + 1);
         }
     }

@@ -1,7 +1,6 @@
 pub mod Demand3
 pub mod FileDays
 pub mod Judgement
-pub mod Letter
 pub mod Long
 pub mod Meaning
 pub mod Numbers

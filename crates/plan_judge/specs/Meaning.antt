@@ -8,10 +8,8 @@ use mathlib.Core.Bool.{true}
 use mathlib.Core.Logic.{_⊎_}
 use mathlib.Core.Path.{_≡_}
 use Rattle.laws.specs.Ranges.{Between}
-use Rattle.exact_times.specs.Numbers.{Within}
-use Rattle.times.specs.Times.{leaving, reaching}
+use Rattle.exact_times.specs.Leaves.{LeavesInTime}
 use Rattle.junction.specs.declared.Junction.{Junction}
-use Rattle.junction.specs.declared.Side.{Side}
 use Rattle.junction.specs.declared.Zone.{Zone}
 use Rattle.junction_places.specs.Places.{streamNumbered, zoneNumbered}
 use Rattle.streams.specs.Kinds.{isCar}
@@ -26,25 +24,26 @@ begins p stream k = greenOf p stream .start + k * p .cycle
 unfoldable pub ends : Plan → ℕ → ℕ → ℕ
 ends p stream k = begins p stream k + greenOf p stream .length
 
--- the last participant of one side of a zone, whose green ended so many seconds before the other side's green began, leaves the zone no
--- later than the first of the other side reaches it: leaving time, with the one's clearing distance, at most these seconds plus the
--- reaching time, with the other's reaching distance, as numbers, roots included: `Within` of exact_times/specs/Numbers.antt. (Letter.antt has
--- the comparison by document 01's letter, and that both are one; junction_figures/specs/Exact.antt calls this `Clears`; it is written out
--- here so that this file can be read alone.)
-unfoldable pub LeavesInTime : Junction → Side → Side → ℕ → Type 0
-LeavesInTime j earlier later seconds =
-    Within (leaving (streamNumbered j (earlier .stream) .kind) (earlier .clearing)) (reaching (streamNumbered j (later .stream) .kind) (later .reaching)) seconds
+-- the green of one stream in its cycle k is the earlier: it ends no later than that of another in its cycle m begins; and its last participant
+-- leaves the zone no later than the first of the other reaches it, by these distances: `LeavesInTime` of exact_times/specs/Leaves.antt
+unfoldable pub Before : Junction → Plan → (earlier later clearing reach k m : ℕ) → Type 0
+Before j p earlier later clearing reach k m =
+    (ends p earlier k ≤ begins p later m)
+    × LeavesInTime (streamNumbered j earlier) (streamNumbered j later) clearing reach (begins p later m - ends p earlier k)
 
--- the green of one side in its cycle k is the earlier: it ends no later than that of the other side in its cycle m begins; and its last
--- participant leaves in time
-unfoldable pub Before : Junction → Plan → Side → Side → ℕ → ℕ → Type 0
-Before j p earlier later k m =
-    (ends p (earlier .stream) k ≤ begins p (later .stream) m)
-    × LeavesInTime j earlier later (begins p (later .stream) m - ends p (earlier .stream) k)
+-- the four distances of two streams a and b at a zone
+pub record Distances : Type 0 where
+  pub clearingA : ℕ
+  pub reachingA : ℕ
+  pub clearingB : ℕ
+  pub reachingB : ℕ
 
--- two greens at a zone, one of each of its streams: one of them is the earlier, and its last participant leaves in time
-unfoldable pub Apart : Junction → Plan → Zone → ℕ → ℕ → Type 0
-Apart j p zone k m = Before j p (zone .a) (zone .b) k m ⊎ Before j p (zone .b) (zone .a) m k
+abbrev pub distancesOf : Zone → Distances
+distancesOf z = record { clearingA = z .a .clearing; reachingA = z .a .reaching; clearingB = z .b .clearing; reachingB = z .b .reaching }
+
+-- the green of stream a in its cycle k and that of stream b in its cycle m: one of them is the earlier, and its last participant leaves in time
+unfoldable pub Apart : Junction → Plan → (a b : ℕ) → Distances → (k m : ℕ) → Type 0
+Apart j p a b d k m = Before j p a b (d .clearingA) (d .reachingB) k m ⊎ Before j p b a (d .clearingB) (d .reachingA) m k
 
 -- the three things
 pub record Acceptable (j : Junction) (p : Plan) : Type 0 where
@@ -54,4 +53,5 @@ pub record Acceptable (j : Junction) (p : Plan) : Type 0 where
   pub capacity : (stream : ℕ) → Between 1 (j .held .streams) stream → isCar (streamNumbered j stream .kind) ≡ true
       → streamFlow j stream * p .cycle ≤ streamSaturation j stream * (greenOf p stream .length + 1)
   -- whatever number of cycles the plan is repeated for, whichever zone is looked at, and whichever green of each of its two streams
-  pub apart : (n : ℕ) (zone : ℕ) → Between 1 (j .held .zones) zone → (k m : ℕ) → k < n → m < n → Apart j p (zoneNumbered j zone) k m
+  pub apart : (n : ℕ) (zone : ℕ) → Between 1 (j .held .zones) zone → (k m : ℕ) → k < n → m < n
+      → Apart j p (zoneNumbered j zone .a .stream) (zoneNumbered j zone .b .stream) (distancesOf (zoneNumbered j zone)) k m

@@ -144,7 +144,7 @@ fn work_out(junction: &[u8], room: usize)
 {
     let mut out = [BEFORE; 300];
     let worked = lend(junction, room, &mut out);
-    let size = tell_worked(worked, read_file(junction).held.streams);
+    let size = tell_worked(worked);
     case_text::put_bytes(&out[0..size]);
     tell_kept(&out[size..]);
 }
@@ -157,7 +157,7 @@ fn lend(junction: &[u8], room: usize, out: &mut [u8]) -> Worked
 }
 
 // Prints all but the bytes of the plan file, and answers how many these are.
-fn tell_worked(worked: Worked, streams: usize) -> usize
+fn tell_worked(worked: Worked) -> usize
     ensures { λ r. ⌜ r ≤ 300 ⌝ }
 {
     let verdict = worked.verdict;
@@ -167,15 +167,15 @@ fn tell_worked(worked: Worked, streams: usize) -> usize
         put(b" tried");
         put_number(worked.tried as usize);
         put(b" plan ");
-        return plan_size(streams);
+        return within(worked.size);
     }
     0
 }
 
-fn plan_size(streams: usize) -> usize
+fn within(size: usize) -> usize
     ensures { λ r. ⌜ r ≤ 300 ⌝ }
 {
-    if streams <= 16 { 5 + 8 * streams } else { 0 }
+    if size <= 300 { size } else { 0 }
 }
 
 fn tell_kept(rest: &[u8]) {

@@ -8,3 +8,10 @@ isCar (Car c) = true
 isCar (Tram t) = false
 isCar (Pedestrian p) = false
 isCar (Cyclist y) = false
+
+-- pedestrians and trams
+abbrev pub isPedestrianOrTram : Kind → Bool
+isPedestrianOrTram (Car c) = false
+isPedestrianOrTram (Tram t) = true
+isPedestrianOrTram (Pedestrian p) = true
+isPedestrianOrTram (Cyclist y) = false

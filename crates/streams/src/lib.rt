@@ -1,7 +1,7 @@
 // The streams of a junction (document 01, "The junction file"). Lengths are decimetres unless said; a flag is true where the
 // file has 1.
 ghost use mathlib.Core.Path.{_≡_};
-ghost use Rattle.streams.specs.Kinds.{isCar};
+ghost use Rattle.streams.specs.Kinds.{isCar, isPedestrianOrTram};
 
 pub struct CarFigures {
     // Amber in seconds.
@@ -71,6 +71,19 @@ pub fn is_car(s: Stream) -> bool
         Kind::Car(_) => true,
         Kind::Tram(_) => false,
         Kind::Pedestrian(_) => false,
+        Kind::Cyclist(_) => false,
+    }
+}
+
+// Whether a stream is of pedestrians or trams.
+pub fn is_pedestrian_or_tram(s: Stream) -> bool
+    ensures { λ r. ⌜ r ≡ isPedestrianOrTram (s .kind) ⌝ }
+{
+    let kind = s.kind;
+    match kind {
+        Kind::Car(_) => false,
+        Kind::Tram(_) => true,
+        Kind::Pedestrian(_) => true,
         Kind::Cyclist(_) => false,
     }
 }

@@ -118,9 +118,14 @@ module _ (junction : List ℕ) (is : reading junction .verdict ≡ Passed) where
         let low : cycle j < 181 = ltb-true _ _ (three .1) in
         let passed : junctionVerdict j (length lent) ≡ Passed = unfold junctionVerdict calculation in (sym verdict-is ∙ e) in
         let told : ℕ → Worked =
-        λ c. record { verdict = junctionVerdict j (length lent); cycle = c; tried = found j (firstTried j) .tried; size = planSize (j .held .streams) } in
-        let w : worked junction (length lent) ≡ told (cycle j) =
-        sym (worked-passed j (length lent) (ap isRefused passed) ∙ file-taken junction (length lent) (ap isRefused is)) ∙ ap told (found-cycle j) in
+        λ c. record {
+          verdict = junctionVerdict j (length lent);
+          cycle = c;
+          tried = found j (firstTried j) .tried;
+          size = planSize (j .held .streams);
+        } in
+        let searched = worked-passed j (length lent) (ap isRefused passed) ∙ file-taken junction (length lent) (ap isRefused is) in
+        let w : worked junction (length lent) ≡ told (cycle j) = sym searched ∙ ap told (found-cycle j) in
         let works = cycle-works j low in
         let first = first-tried-range j in
         let bounds = tried-bounds j low in

@@ -16,8 +16,9 @@ use Rattle.givendra.specs.Answers.{intergreenVerdict, needVerdict, carVerdict}
 use Rattle.givendra.specs.LentList.{listRank}
 use Rattle.givendra.specs.declared.CountRecord.{CountRecord}
 use Rattle.demands.specs.Asked.{Question, answer, answer-append, said}
-use Rattle.demands.specs.Places.{JunctionPlace, long, field, file, count, PlanPlace, fit, expected, range, need, capacity, zone}
-use Rattle.demands.specs.Places.{CalculationPlace, ratios-sum, no-cycle, no-room, JudgePlace, WorkPlace, FigurePlace, ListPlace, of-junction, of-plan, of-calculation, of-stream, of-cycle, none-usable}
+use Rattle.demands.specs.Places.{JunctionPlace, long, field, file, count, PlanPlace, fit, expected, range, RulePlace, need, capacity, zone}
+use Rattle.demands.specs.Places.{CalculationPlace, ratios-sum, no-cycle, no-room, JudgePlace, WorkPlace, FigurePlace, ListPlace}
+use Rattle.demands.specs.Places.{of-junction, of-plan, of-rule, of-calculation, of-stream, of-cycle, none-usable}
 use Rattle.demands.specs.Questions.{junctionAsked, intergreenAsked, needAsked, carAsked, listAsked}
 use Rattle.demands.specs.lemmas.Answered.{read-answer}
 use Rattle.demands.specs.lemmas.Told.{Told, ask-told, first-told, told-more, junction-told}
@@ -35,13 +36,15 @@ junction-some n p (field w low) = omega arith
 junction-some n p file = omega arith
 junction-some n p (count w) = omega arith
 
-plan-some : {size streams zones : ℕ} (n p : ℕ) → PlanPlace size streams zones n p → 1 ≤ n
+plan-some : {size : ℕ} (n p : ℕ) → PlanPlace size n p → 1 ≤ n
 plan-some n p (fit l) = omega arith
 plan-some n p (expected l) = omega arith
 plan-some n p (range l) = omega arith
-plan-some n p (need w) = omega arith
-plan-some n p (capacity w) = omega arith
-plan-some n p (zone w) = omega arith
+
+rule-some : {streams zones : ℕ} (n p : ℕ) → RulePlace streams zones n p → 1 ≤ n
+rule-some n p (need w) = omega arith
+rule-some n p (capacity w) = omega arith
+rule-some n p (zone w) = omega arith
 
 calculation-some : (n p : ℕ) → CalculationPlace n p → 1 ≤ n
 calculation-some n p ratios-sum = omega arith
@@ -51,6 +54,7 @@ calculation-some n p no-room = omega arith
 pub judge-some : {junction plan : List ℕ} (n p : ℕ) → JudgePlace junction plan n p → 1 ≤ n
 judge-some n p (of-junction w) = junction-some n p w
 judge-some n p (of-plan w) = plan-some n p w
+judge-some n p (of-rule w) = rule-some n p w
 
 pub work-some : {junction : List ℕ} (n p : ℕ) → WorkPlace junction n p → 1 ≤ n
 work-some n p (of-junction w) = junction-some n p w
@@ -76,10 +80,12 @@ module _ (junction : List ℕ) where
       first-told R (reading junction .verdict) v (told-more _ R (λ n p. of-junction) (reading junction .verdict) (junction-told junction)) (λ e. t)
 
   module _ (from to : ℕ) where
-    pub intergreen-answer : firstRefusal (reading junction .verdict) (intergreenVerdict (reading junction .junction) from to) ≡ answer (intergreenAsked junction from to)
+    pub intergreen-answer : firstRefusal (reading junction .verdict) (intergreenVerdict (reading junction .junction) from to)
+        ≡ answer (intergreenAsked junction from to)
     intergreen-answer = own-answer _ _ (unfold answer intergreenVerdict in refl)
 
-    pub intergreen-told : Told (FigurePlace junction (λ p. (p ≡ from) ⊎ (p ≡ to)) ⊥) (firstRefusal (reading junction .verdict) (intergreenVerdict (reading junction .junction) from to))
+    pub intergreen-told : Told (FigurePlace junction (λ p. (p ≡ from) ⊎ (p ≡ to)) ⊥)
+        (firstRefusal (reading junction .verdict) (intergreenVerdict (reading junction .junction) from to))
     unfolding intergreenVerdict
     intergreen-told =
         let j = reading junction .junction in
@@ -91,7 +97,8 @@ module _ (junction : List ℕ) where
     pub need-answer : firstRefusal (reading junction .verdict) (needVerdict (reading junction .junction) n cycle) ≡ answer (needAsked junction n cycle)
     need-answer = own-answer _ _ (unfold answer needVerdict in refl)
 
-    pub need-told : Told (FigurePlace junction (λ p. p ≡ n) (Unit {0})) (firstRefusal (reading junction .verdict) (needVerdict (reading junction .junction) n cycle))
+    pub need-told : Told (FigurePlace junction (λ p. p ≡ n) (Unit {0}))
+        (firstRefusal (reading junction .verdict) (needVerdict (reading junction .junction) n cycle))
     unfolding needVerdict
     need-told =
         let j = reading junction .junction in

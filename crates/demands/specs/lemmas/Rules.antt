@@ -13,14 +13,13 @@ use Rattle.laws.specs.Tests.{by-test}
 use Rattle.fields.specs.Verdict.{numberOf, placeOf, isRefused, firstRefusal, firstFailing, askEach, each-passed}
 use Rattle.fields.specs.declared.Verdict.{Verdict}
 use Rattle.fields.specs.declared.Verdict.the-variants.{Passed, Refused}
-use Rattle.fields.specs.lemmas.Numbers.{Numbered}
-use Rattle.junction_file.specs.Numbers.{reading-numbered}
 use Rattle.junction_file.specs.Reading.{reading}
-use Rattle.plan_file.specs.lemmas.Numbers.{plan-numbered}
 use Rattle.plan_file.specs.Plans.{planVerdict, planOf}
 use Rattle.plan_rules.specs.Rules.{needMet, capacityMet, zoneMet, rulesVerdict}
 use Rattle.plan_judge.specs.Judgement.{planJudgement, judgement}
+use Rattle.demands.specs.Places.{JunctionPlace, long, field, file, count, PlanPlace, fit, expected, range}
 use Rattle.demands.specs.Questions.{Formed, Every, FirstOf}
+use Rattle.demands.specs.lemmas.Told.{Told, junction-told, plan-told}
 
 module _ (holds : ℕ → Bool) (number n : ℕ) (later : Verdict) where
   -- the refusal of a rule: its own where some number fails it, else that of what is asked later
@@ -78,26 +77,36 @@ first-later : (v later : Verdict) (m k : ℕ) → (v ≡ Refused m k → ⊥) �
 first-later Passed later m k never = (λ e. (refl, e), λ h. h .1)
 first-later (Refused number place) later m k never = (λ e. absurd (never e), λ h. absurd (true≢false (ap isRefused (h .0))))
 
-unnumbered : (most : ℕ) (v : Verdict) → Numbered most v → (m k : ℕ) → most < m → v ≡ Refused m k → ⊥
-unnumbered most v is m k more e = let w : Between 1 most m = subst (Numbered most) e is in omega arith
+-- no question of a junction file or of a plan file has the number of a rule
+junction-other : {size streams m k : ℕ} → Between 15 17 m → JunctionPlace size streams m k → ⊥
+junction-other rule long = omega arith
+junction-other rule (field w low) = omega arith
+junction-other rule file = omega arith
+junction-other rule (count w) = omega arith
+
+plan-other : {size m k : ℕ} → Between 15 17 m → PlanPlace size m k → ⊥
+plan-other rule (fit low) = omega arith
+plan-other rule (expected low) = omega arith
+plan-other rule (range low) = omega arith
 
 module _ (junction plan : List ℕ) where
   -- past the questions of both files
-  rules-first : (m k : ℕ) → 13 < m
+  rules-first : (m k : ℕ) → Between 15 17 m
       → (judgement junction plan ≡ Refused m k) ↔ (Formed junction plan × (rulesVerdict (reading junction .junction) (planOf plan) ≡ Refused m k))
   unfolding judgement planJudgement
-  rules-first m k more =
+  rules-first m k rule =
       let j = reading junction .junction in
       let one = first-later (reading junction .verdict) (firstRefusal (planVerdict plan (j .held .streams)) (rulesVerdict j (planOf plan))) m k
-      (unnumbered 9 _ (reading-numbered junction) m k (omega arith)) in
+      (λ e. junction-other rule (subst (Told _) e (junction-told junction))) in
       let two = first-later (planVerdict plan (j .held .streams)) (rulesVerdict j (planOf plan)) m k
-      (unnumbered 13 _ (plan-numbered plan (j .held .streams)) m k more) in (
+      (λ e. plan-other rule (subst (Told _) e (plan-told plan (j .held .streams)))) in (
         λ e. let a = one .0 e in let b = two .0 (a .1) in ((a .0, b .0), b .1),
         λ h. one .1 (h .0 .0, two .1 (h .0 .1, h .1)),
       )
 
   module _ (k : ℕ) where
-    zones-never : (m : ℕ) → (17 ≡ m → ⊥) → (i : ℕ) → askEach (zoneMet (reading junction .junction) (planOf plan)) 17 (reading junction .junction .held .zones) Passed ≡ Refused m i → ⊥
+    zones-never : (m : ℕ) → (17 ≡ m → ⊥) → (i : ℕ)
+        → askEach (zoneMet (reading junction .junction) (planOf plan)) 17 (reading junction .junction .held .zones) Passed ≡ Refused m i → ⊥
     zones-never m other i e = true≢false (sym (ap isRefused (each-later _ 17 _ Passed m i other .0 e .1)))
 
     pub need-refused : (judgement junction plan ≡ Refused 15 k)
@@ -119,8 +128,9 @@ module _ (junction plan : List ℕ) where
     capacity-refused =
         let j = reading junction .junction in
         let p = planOf plan in
-        let needs = each-later (needMet j p) 15 (j .held .streams) (askEach (capacityMet j p) 16 (j .held .streams) (askEach (zoneMet j p) 17 (j .held .zones) Passed)) 16 k (omega arith) in
-        let own = each-exact (capacityMet j p) 16 (j .held .streams) (askEach (zoneMet j p) 17 (j .held .zones) Passed) (zones-never 16 (omega arith)) k in
+        let last = askEach (zoneMet j p) 17 (j .held .zones) Passed in
+        let needs = each-later (needMet j p) 15 (j .held .streams) (askEach (capacityMet j p) 16 (j .held .streams) last) 16 k (omega arith) in
+        let own = each-exact (capacityMet j p) 16 (j .held .streams) last (zones-never 16 (omega arith)) k in
         let all = rules-first 16 k (omega arith) in (
           λ e. let a = all .0 e in let b = needs .0 (a .1) in (a .0, b .0, own .0 (b .1)),
           λ h. all .1 (h .0, needs .1 (h .1, own .1 (h .2))),

@@ -15,7 +15,8 @@ use Rattle.fields.specs.declared.Verdict.{Verdict}
 use Rattle.fields.specs.declared.Verdict.the-variants.{Passed, Refused}
 use Rattle.junction.specs.declared.Junction.{Junction}
 use Rattle.junction_places.specs.Blank.{blank}
-use Rattle.junction_questions.specs.Questions.{inOrder, lengthRight, inRange, withinLimit, refers, bodyVerdict, namedBy, fieldVerdict, firstLacking, countsVerdict, whole, wholeVerdict}
+use Rattle.junction_questions.specs.Questions.{inOrder, lengthRight, inRange, withinLimit, refers, bodyVerdict, namedBy, fieldVerdict}
+use Rattle.junction_questions.specs.Questions.{firstLacking, countsVerdict, whole, wholeVerdict}
 use Rattle.junction_file.specs.Reading.{afterField, readField, atEnd, readFrom, reading}
 use Rattle.plan_file.specs.Plans.{dueVerdict, cycleVerdict, greenVerdict, greensFrom, planVerdict, planOf}
 use Rattle.plan_file.specs.Writing.{hasRoom}
@@ -25,7 +26,7 @@ use Rattle.cycle_search.specs.Planning.{ratios, cycle}
 use Rattle.planner.specs.lemmas.Cases.{file-verdict}
 use Rattle.planner.specs.WorkingOut.{calculation, junctionVerdict, worked}
 use Rattle.demands.specs.Places.{JunctionPlace, long, field, file, count, PlanPlace, fit, expected, range, need, capacity, zone}
-use Rattle.demands.specs.Places.{ratios-sum, no-cycle, no-room, JudgePlace, WorkPlace, of-junction, of-plan, of-calculation}
+use Rattle.demands.specs.Places.{ratios-sum, no-cycle, no-room, JudgePlace, WorkPlace, of-junction, of-plan, of-rule, of-calculation}
 
 -- a refusal, if there is one, has such a number and place
 abbrev pub Told : (ℕ → ℕ → Type 0) → Verdict → Type 0
@@ -90,29 +91,29 @@ module _ (s : List ℕ) where
   unfolding reading
   junction-told = by-test (leb (length s) 16384) (λ e. rw e (from-told (length s) 0 blank)) (λ e. rw e long)
 
-module _ (s : List ℕ) (streams zones : ℕ) where
-  due-told : (at : ℕ) (expects ranged : Bool) → Told (PlanPlace (length s) streams zones) (dueVerdict s at expects ranged)
+module _ (s : List ℕ) where
+  due-told : (at : ℕ) (expects ranged : Bool) → Told (PlanPlace (length s)) (dueVerdict s at expects ranged)
   unfolding dueVerdict
   due-told at expects ranged =
-      let R = PlanPlace (length s) streams zones in
+      let R = PlanPlace (length s) in
       ask-told R (ltb at (length s)) 12 (length s) _ (λ e. expected (omega arith)) (λ e. let low : at < length s = ltb-true _ _ e in
       ask-told R (fits s at) 11 at _ (λ e. fit low) (λ e.
       ask-told R expects 12 at _ (λ e. expected (omega arith)) (λ e.
       ask-told R ranged 13 at Passed (λ e. range low) (λ e. tt))))
 
-  greens-told : (k at n : ℕ) → Told (PlanPlace (length s) streams zones) (greensFrom k s at n)
+  greens-told : (k at n : ℕ) → Told (PlanPlace (length s)) (greensFrom k s at n)
   unfolding greensFrom greenVerdict
   greens-told zero at n =
-      ask-told (PlanPlace (length s) streams zones) (leb (length s) at) 12 at Passed
+      ask-told (PlanPlace (length s)) (leb (length s) at) 12 at Passed
       (λ e. let low = leb-false (length s) at e in expected (omega arith)) (λ e. tt)
   greens-told (suc k) at n =
       let later = greens-told k (fieldEnd s at) (n + 1) in
-      first-told (PlanPlace (length s) streams zones) (dueVerdict s at _ _) _ (due-told at _ _) (λ e. later)
+      first-told (PlanPlace (length s)) (dueVerdict s at _ _) _ (due-told at _ _) (λ e. later)
 
-  plan-told : Told (PlanPlace (length s) streams zones) (planVerdict s streams)
+  pub plan-told : (streams : ℕ) → Told (PlanPlace (length s)) (planVerdict s streams)
   unfolding planVerdict cycleVerdict
-  plan-told =
-      first-told (PlanPlace (length s) streams zones) (dueVerdict s 0 _ _) _ (due-told 0 _ _) (λ e. greens-told streams (fieldEnd s 0) 1)
+  plan-told streams =
+      first-told (PlanPlace (length s)) (dueVerdict s 0 _ _) _ (due-told 0 _ _) (λ e. greens-told streams (fieldEnd s 0) 1)
 
 pub judge-told : (junction plan : List ℕ) → Told (JudgePlace junction plan) (judgement junction plan)
 unfolding judgement planJudgement rulesVerdict
@@ -122,10 +123,10 @@ judge-told junction plan =
     let p = planOf plan in
     first-told R (reading junction .verdict) _ (told-more _ R (λ n q. of-junction) (reading junction .verdict) (junction-told junction)) (λ e.
     first-told R (planVerdict plan (j .held .streams)) _
-    (told-more _ R (λ n q. of-plan) (planVerdict plan (j .held .streams)) (plan-told plan (j .held .streams) (j .held .zones))) (λ e.
-    each-told R (needMet j p) 15 (j .held .streams) _ (λ k w. of-plan (need w))
-    (each-told R (capacityMet j p) 16 (j .held .streams) _ (λ k w. of-plan (capacity w))
-    (each-told R (zoneMet j p) 17 (j .held .zones) Passed (λ k w. of-plan (zone w)) tt))))
+    (told-more _ R (λ n q. of-plan) (planVerdict plan (j .held .streams)) (plan-told plan (j .held .streams))) (λ e.
+    each-told R (needMet j p) 15 (j .held .streams) _ (λ k w. of-rule (need w))
+    (each-told R (capacityMet j p) 16 (j .held .streams) _ (λ k w. of-rule (capacity w))
+    (each-told R (zoneMet j p) 17 (j .held .zones) Passed (λ k w. of-rule (zone w)) tt))))
 
 pub work-told : (junction : List ℕ) (size : ℕ) → Told (WorkPlace junction) (worked junction size .verdict)
 unfolding junctionVerdict calculation

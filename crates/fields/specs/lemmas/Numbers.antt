@@ -4,30 +4,29 @@ use native.Mathlib.Omega.{arith}
 use mathlib.Core.Bool.{Bool, true, false}
 use mathlib.Core.Logic.{_↔_}
 use mathlib.Core.Path.{_≡_, refl, ap}
-use Rattle.laws.specs.Ranges.{Between}
-use Rattle.fields.specs.Verdict.{numberOf, ask, firstRefusal}
+use lib.Dec.{leb}
+use Rattle.fields.specs.Verdict.{numberOf, ask, firstRefusal, firstFailing, askEach}
 use Rattle.fields.specs.declared.Verdict.{Verdict}
 use Rattle.fields.specs.declared.Verdict.the-variants.{Passed, Refused}
 
--- no refusal, or one with a number from 1 to most
-abbrev pub Numbered : ℕ → Verdict → Type 0
-Numbered most Passed = Unit {0}
-Numbered most (Refused number place) = Between 1 most number
+-- no refusal, or one whose number is 1 or more
+abbrev pub Numbered : Verdict → Type 0
+Numbered Passed = Unit {0}
+Numbered (Refused number place) = 1 ≤ number
 
-module _ (most : ℕ) where
-  pub ask-numbered : (answer : Bool) (number place : ℕ) (later : Verdict) → Between 1 most number → Numbered most later → Numbered most (ask answer number place later)
-  ask-numbered true number place later here there = there
-  ask-numbered false number place later here there = here
+pub ask-numbered : (answer : Bool) (number place : ℕ) (later : Verdict) → 1 ≤ number → Numbered later → Numbered (ask answer number place later)
+ask-numbered true number place later here there = there
+ask-numbered false number place later here there = here
 
-  pub first-numbered : (v later : Verdict) → Numbered most v → Numbered most later → Numbered most (firstRefusal v later)
-  first-numbered Passed later here there = there
-  first-numbered (Refused number place) later here there = here
+pub first-numbered : (v later : Verdict) → Numbered v → Numbered later → Numbered (firstRefusal v later)
+first-numbered Passed later here there = there
+first-numbered (Refused number place) later here there = here
 
-  -- the number is 0 exactly where nothing is refused
-  pub passed-number : (v : Verdict) → Numbered most v → (numberOf v ≡ 0) ↔ (v ≡ Passed)
-  passed-number Passed n = (λ e. refl, λ e. refl)
-  passed-number (Refused number place) n = (λ e. absurd (omega arith), λ e. ap numberOf e)
+pub each-numbered : (holds : ℕ → Bool) (number n : ℕ) (later : Verdict) → 1 ≤ number → Numbered later → Numbered (askEach holds number n later)
+unfolding askEach
+each-numbered holds number n later here there = ask-numbered (leb n (firstFailing holds n)) number _ later here there
 
-pub numbered-more : (most more : ℕ) → most ≤ more → (v : Verdict) → Numbered most v → Numbered more v
-numbered-more most more h Passed n = tt
-numbered-more most more h (Refused number place) n = omega arith
+-- the number is 0 exactly where nothing is refused
+pub passed-number : (v : Verdict) → Numbered v → (numberOf v ≡ 0) ↔ (v ≡ Passed)
+passed-number Passed n = (λ e. refl, λ e. refl)
+passed-number (Refused number place) n = (λ e. absurd (omega arith), λ e. ap numberOf e)

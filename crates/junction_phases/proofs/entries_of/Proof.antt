@@ -4,20 +4,21 @@ use Prim.Native.Nat.{_-_, _≤_}
 use native.Mathlib.Nat.{le-antisymm}
 use native.Mathlib.Omega.{arith}
 use lib.ListN.{getD}
+use Rattle.limits.specs.Limits.{mostPhases}
+use Rattle.laws.specs.ByNumber.{ByNumber, by-number-none, by-number-next}
 use Rattle.junction_tables.specs.Tables.{noConflict}
-use Rattle.junction_phases.specs.lemmas.ByPhase.{ByPhase, by-phase-none, by-phase-next}
 use Rattle.junction_phases.specs.lemmas.Tabled.{entriesBy, ZonePhases, zone-raised}
 use Rattle.junction_phases.proofs.entries_of.Statement.{statement}
 use Rattle.junction_phases.proofs.entries_of.Tie as tie
 
 abbrev Inv-loop : tie.InvT-loop
-Inv-loop zones count streams conflicts entries₀ i₀ entries i = (i ≤ zones) × ByPhase (entriesBy streams conflicts count i) entries
+Inv-loop zones count streams conflicts entries₀ i₀ entries i = (i ≤ zones) × ByNumber mostPhases (entriesBy streams conflicts count i) entries
 
 abbrev μ-loop : tie.MeasureT-loop
 μ-loop zones count streams conflicts entries₀ i₀ entries i = zones - i
 
 loop-holds : tie.Need-loop-holds Inv-loop μ-loop
-loop-holds c = (omega arith, by-phase-none _)
+loop-holds c = (omega arith, by-number-none _)
 
 -- the zone's streams
 zone : (c : tie.In-loop Inv-loop μ-loop) → ZonePhases (c .before .before .args .t1) (getD (c .before .before .args .t2 .of) (c .before .loop .i) noConflict)
@@ -89,7 +90,7 @@ loop-again c =
     let z = zone (c .before .before .before .before .before .before .before .before .before .before .before) in
     let first = c .before .before .before in (
       omega arith,
-      by-phase-next _ (l .i) _
+      by-number-next _ (l .i) _
           (zone-raised _ (l .entries) _ _ _ _ _ (l .inv .1) z (simp (first .u32-larger .ensures, first .before .onward .ensures))
           (simp (c .u32-larger2 .ensures, c .before .onward2 .ensures))),
     )

@@ -8,7 +8,7 @@ use lib.Dec.{leb}
 use lib.ListN.{getD}
 use Rattle.laws.specs.Largest.{largestOf, largest-none, largest-next}
 use Rattle.junction_places.specs.Blank.{noStream}
-use Rattle.junction_phases.specs.JunctionPhases.{isPedestrianOrTram}
+use Rattle.streams.specs.Kinds.{isPedestrianOrTram}
 use Rattle.junction_phases.specs.lemmas.Tabled.{pedestrian-or-tram-tabled}
 use Rattle.junction_phases.proofs.has_pedestrian_or_tram.Statement.{statement}
 use Rattle.junction_phases.proofs.has_pedestrian_or_tram.Tie as tie

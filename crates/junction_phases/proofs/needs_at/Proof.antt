@@ -5,21 +5,22 @@ use native.Mathlib.Nat.{le-antisymm}
 use native.Mathlib.Omega.{arith}
 use borrow.Author.Needs.{needs}
 use lib.ListN.{getD}
+use Rattle.limits.specs.Limits.{mostPhases}
+use Rattle.laws.specs.ByNumber.{ByNumber, raised, by-number-none, by-number-next}
 use Rattle.laws.specs.Ranges.{Between}
 use Rattle.junction_places.specs.Blank.{noStream}
-use Rattle.junction_phases.specs.lemmas.ByPhase.{ByPhase, raised, by-phase-none, by-phase-next}
 use Rattle.junction_phases.specs.lemmas.Tabled.{needsBy}
 use Rattle.junction_phases.proofs.needs_at.Statement.{statement}
 use Rattle.junction_phases.proofs.needs_at.Tie as tie
 
 abbrev Inv-loop : tie.InvT-loop
-Inv-loop n t streams needs₀ i₀ needs i = (i ≤ n) × ByPhase (needsBy streams t i) needs
+Inv-loop n t streams needs₀ i₀ needs i = (i ≤ n) × ByNumber mostPhases (needsBy streams t i) needs
 
 abbrev μ-loop : tie.MeasureT-loop
 μ-loop n t streams needs₀ i₀ needs i = n - i
 
 loop-holds : tie.Need-loop-holds Inv-loop μ-loop
-loop-holds c = (omega arith, by-phase-none _)
+loop-holds c = (omega arith, by-number-none _)
 
 -- the stream's phase
 range : (c : tie.In-loop Inv-loop μ-loop) → Between 1 6 (getD (c .before .before .args .t1) (c .before .loop .i) noStream .phase)
@@ -44,7 +45,8 @@ loop-again : tie.Need-loop-again Inv-loop μ-loop
 loop-again c =
     let l = c .before .before .before .before .before .loop in (
       omega arith,
-      by-phase-next _ (l .i) _ (raised _ _ _ _ (l .needs) (l .inv .1) (range (c .before .before .before .before)) (simp (c .u32-larger .ensures, c .before .need .ensures))),
+      by-number-next _ (l .i) _
+          (raised _ _ _ _ (l .needs) (l .inv .1) (range (c .before .before .before .before)) (simp (c .u32-larger .ensures, c .before .need .ensures))),
     )
 
 returns : tie.Need-returns Inv-loop μ-loop

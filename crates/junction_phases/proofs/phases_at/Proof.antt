@@ -4,9 +4,9 @@ use mathlib.Core.Path.{_≡_, _∙_}
 use native.Mathlib.Nat.{le-antisymm}
 use native.Mathlib.Omega.{arith}
 use lib.ListN.{getD, replicate}
+use Rattle.laws.specs.ByNumber.{by-number-same}
 use Rattle.laws.specs.Filled.{filled, filled-none, filled-next}
 use Rattle.phase_lengths.specs.Phases.{noPhase}
-use Rattle.junction_phases.specs.lemmas.ByPhase.{by-phase-same}
 use Rattle.junction_phases.specs.lemmas.Made.{phaseWith, phases-made}
 use Rattle.junction_phases.specs.lemmas.Tabled.{count-tabled, needs-tabled, ratios-tabled, entries-tabled, stream-phases, zones-phases}
 use Rattle.junction_phases.proofs.phases_at.Statement.{statement}
@@ -76,9 +76,9 @@ returns c =
     let taken = s .pre .0 in
     let t = s .args .t in
     let count = c .before .before .before .before .before .before .phase-count .ensures .0 ∙ count-tabled j taken in
-    let ratios = by-phase-same _ _ _ (rw (s .pre .1 .0) at (c .before .before .before .before .before .ratios-of .ensures)) (ratios-tabled j taken) in
-    let entries = by-phase-same _ _ _ (rw (s .pre .1 .1, count) at (c .before .before .before .before .entries-of .ensures)) (entries-tabled j taken) in
-    let needs = by-phase-same _ _ _ (c .before .before .before .needs-at .ensures) (needs-tabled j taken t) in
+    let ratios = by-number-same _ _ _ (rw (s .pre .1 .0) at (c .before .before .before .before .before .ratios-of .ensures)) (ratios-tabled j taken) in
+    let entries = by-number-same _ _ _ (rw (s .pre .1 .1, count) at (c .before .before .before .before .entries-of .ensures)) (entries-tabled j taken) in
+    let needs = by-number-same _ _ _ (c .before .before .before .needs-at .ensures) (needs-tabled j taken t) in
     l .inv .1 ∙ rw (le-antisymm (l .inv .0) (c .loop-test .left), count) (phases-made j taken t _ _ _ ratios entries needs)
 
 pub phases-at-spec : {M : Type 1} → statement M

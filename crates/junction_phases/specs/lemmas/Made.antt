@@ -8,6 +8,8 @@ use mathlib.Core.Path.{_≡_, sym, _∙_}
 use lib.Dec.{leb}
 use lib.ListN.{getD, replicate}
 use borrow.Author.Tests.{leb-true, leb-false}
+use Rattle.limits.specs.Limits.{mostPhases}
+use Rattle.laws.specs.ByNumber.{ByNumber}
 use Rattle.laws.specs.Filled.{filled}
 use Rattle.laws.specs.Tests.{by-test, both-right}
 use Rattle.junction.specs.declared.Junction.{Junction}
@@ -15,8 +17,8 @@ use Rattle.junction_places.specs.Places.{numbered-at}
 use Rattle.junction_file.specs.Taken.{Taken}
 use Rattle.phase_lengths.specs.Phases.{noPhase}
 use Rattle.phase_lengths.specs.declared.Phase.{Phase}
-use Rattle.junction_phases.specs.lemmas.ByPhase.{ByPhase}
-use Rattle.junction_phases.specs.JunctionPhases.{isIn, carIn, hasCars, phaseRatio, phaseNeed, phaseCount, nextPhase, phaseEntry, intergreen, phaseAt, phasesAt}
+use Rattle.junction_phases.specs.JunctionPhases.{isIn, carIn, hasCars, phaseRatio, phaseNeed, phaseCount}
+use Rattle.junction_phases.specs.JunctionPhases.{nextPhase, phaseEntry, intergreen, phaseAt, phasesAt}
 use Rattle.junction_phases.specs.Meaning.{ratio-largest, cars-none}
 use Rattle.junction_phases.specs.lemmas.Placed.{few-phases, phases-filled}
 use Rattle.junction_phases.specs.lemmas.Right.{no-cars, ratio-some}
@@ -46,7 +48,8 @@ module _ (j : Junction) (taken : Taken j) where
   phase-made t i = rw (cars-by-ratio (i + 1))
 
   pub phases-made : (t : ℕ) (ratios entries needs : List ℕ)
-      → ByPhase (λ f. phaseRatio j f) ratios → ByPhase (λ f. phaseEntry j f (nextPhase j f)) entries → ByPhase (λ f. phaseNeed j f t) needs
+      → ByNumber mostPhases (λ f. phaseRatio j f) ratios → ByNumber mostPhases (λ f. phaseEntry j f (nextPhase j f)) entries
+      → ByNumber mostPhases (λ f. phaseNeed j f t) needs
       → record { count = phaseCount j; of = filled (λ k. phaseWith (getD ratios k 0) (getD entries k 0) (getD needs k 0)) (replicate 6 noPhase) (phaseCount j) }
       ≡ phasesAt j t
   phases-made t ratios entries needs ratio entry need =

@@ -7,6 +7,8 @@ use mathlib.Core.Path.{_≡_, _∙_, ap}
 use lib.Dec.{leb, eqb}
 use lib.ListN.{getD, set}
 use borrow.Author.Tests.{eqb-true}
+use Rattle.limits.specs.Limits.{mostPhases}
+use Rattle.laws.specs.ByNumber.{ByNumber, by-number-same, raised}
 use Rattle.laws.specs.Largest.{largestOf, largest-same}
 use Rattle.laws.specs.Ranges.{Between}
 use Rattle.laws.specs.Tests.{by-test}
@@ -16,7 +18,7 @@ use Rattle.flows.specs.Saturation.{flowRatio}
 use Rattle.junction.specs.declared.Junction.{Junction}
 use Rattle.junction_places.specs.Blank.{noStream}
 use Rattle.junction_places.specs.Places.{streamNumbered, numbered-at, zoneAt, zone-numbered-at}
-use Rattle.streams.specs.Kinds.{isCar}
+use Rattle.streams.specs.Kinds.{isCar, isPedestrianOrTram}
 use Rattle.junction_file.specs.Taken.{Taken}
 use Rattle.junction_figures.specs.Figures.{streamNeed, streamRatio}
 use Rattle.junction_file.specs.lemmas.Places.{stream-place, number-place}
@@ -25,8 +27,8 @@ use Rattle.junction_tables.specs.Tables.{noConflict, conflictOf, conflictsOf, n
 use Rattle.junction_tables.specs.declared.Conflict.{Conflict}
 use Rattle.junction_tables.specs.declared.Conflicts.{Conflicts}
 use Rattle.junction_tables.specs.declared.Loads.{Loads}
-use Rattle.junction_phases.specs.lemmas.ByPhase.{ByPhase, by-phase-same, raised}
-use Rattle.junction_phases.specs.JunctionPhases.{largestStream, isPedestrianOrTram, isIn, carIn, phaseRatio, phaseNeed, phaseCount, hasPedestrianOrTram, phaseAfter, nextPhase, entryBetween, phaseEntry}
+use Rattle.junction_phases.specs.JunctionPhases.{largestStream, isIn, carIn, phaseRatio, phaseNeed, phaseCount}
+use Rattle.junction_phases.specs.JunctionPhases.{hasPedestrianOrTram, phaseAfter, nextPhase, entryBetween, phaseEntry}
 use Rattle.junction_phases.specs.lemmas.Zones.{zoneFigure, zonesEntry, zones-enough}
 
 -- of the first n streams, the largest figure of those of phase f; the needed greens at a cycle; the flow ratios of cars
@@ -37,7 +39,9 @@ abbrev pub needsBy : List Stream → ℕ → ℕ → ℕ → ℕ
 needsBy streams t = largestIn streams (λ i. needAt t (getD streams i noStream))
 
 abbrev pub ratiosBy : List Stream → Loads → ℕ → ℕ → ℕ
-ratiosBy streams loads = largestIn streams (λ i. cond (isCar (getD streams i noStream .kind)) (flowRatio (getD (loads .of) i noLoad .flow) (getD (loads .of) i noLoad .saturation)) 0)
+ratiosBy streams loads =
+    largestIn streams (λ i. cond (isCar (getD streams i noStream .kind))
+    (flowRatio (getD (loads .of) i noLoad .flow) (getD (loads .of) i noLoad .saturation)) 0)
 
 -- the phase of the stream with a number, from 1
 abbrev phaseOf : List Stream → ℕ → ℕ
@@ -84,16 +88,16 @@ one-way count f a b x = by-test (eqb a f) (λ e. rw (e, eqb-true a f e)) (λ e. 
 
 -- a zone raises the entries of the phases of its streams, one after the other
 pub zone-raised : (number : ℕ → ℕ) (l : List ℕ) (streams : List Stream) (c : Conflict) (count y z : ℕ)
-    → ByPhase number l → ZonePhases streams c
+    → ByNumber mostPhases number l → ZonePhases streams c
     → let a = phaseOf streams (c .a) in
     let b = phaseOf streams (c .b) in
     y ≡ max (getD l (a - 1) 0) (onward count a b (c .atob))
     → z ≡ max (getD (set l (a - 1) y) (b - 1) 0) (onward count b a (c .btoa))
-    → ByPhase (λ f. max (number f) (entryBy streams count f c)) (set (set l (a - 1) y) (b - 1) z)
+    → ByNumber mostPhases (λ f. max (number f) (entryBy streams count f c)) (set (set l (a - 1) y) (b - 1) z)
 zone-raised number l streams c count y z before zone atob btoa =
     let a = phaseOf streams (c .a) in
     let b = phaseOf streams (c .b) in
-    by-phase-same _ _ _ (raised _ b _ z _ (raised number a _ y l before (zone .phaseA) atob) (zone .phaseB) btoa)
+    by-number-same _ _ _ (raised _ b _ z _ (raised number a _ y l before (zone .phaseA) atob) (zone .phaseB) btoa)
     (λ f. rw (one-way count f a b (c .atob), one-way count f b a (c .btoa)) (omega arith))
 
 module _ (j : Junction) (taken : Taken j) where
@@ -108,7 +112,8 @@ module _ (j : Junction) (taken : Taken j) where
   pub pedestrian-or-tram-tabled : leb 1 (largestOf (λ i. cond (isPedestrianOrTram (getD (j .streams) i noStream .kind)) 1 0) (j .held .streams))
       ≡ hasPedestrianOrTram j
   unfolding hasPedestrianOrTram
-  pedestrian-or-tram-tabled = ap (leb 1) (figures-tabled _ (λ n. cond (isPedestrianOrTram (streamNumbered j n .kind)) 1 0) (λ i low. rw (stream-place j taken i low)))
+  pedestrian-or-tram-tabled =
+      ap (leb 1) (figures-tabled _ (λ n. cond (isPedestrianOrTram (streamNumbered j n .kind)) 1 0) (λ i low. rw (stream-place j taken i low)))
 
   pub needs-tabled : (t f : ℕ) → needsBy (j .streams) t (j .held .streams) f ≡ phaseNeed j f t
   unfolding phaseNeed isIn streamNeed

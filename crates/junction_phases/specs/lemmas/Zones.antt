@@ -1,5 +1,5 @@
 -- The largest entry from the streams of a phase to those of another, over the zones: only pairs with a zone have an entry.
-use Prim.Native.Nat.{ℕ, _+_, _≤_, _<_, zero-le}
+use Prim.Native.Nat.{ℕ, _+_, _≤_, _<_, max, zero-le}
 use native.Mathlib.Nat.{le-refl, le-antisymm, le-trans, le-max-left, le-max-right, max-le, add-sub-cancel}
 use native.Mathlib.Omega.{arith}
 use mathlib.Core.Bool.{true, _&&_}
@@ -7,15 +7,13 @@ use mathlib.Core.Logic.{_↔_}
 use mathlib.Core.Path.{_≡_}
 use lib.Dec.{eqb}
 use borrow.Author.Tests.{eqb-true}
-use Rattle.laws.specs.Largest.{largest-at-most}
+use Rattle.laws.specs.Largest.{largestOf, largest-at-most}
 use Rattle.laws.specs.Ranges.{Between}
 use Rattle.laws.specs.Tests.{by-test, both, both-left, both-right}
 use Rattle.junction.specs.declared.Junction.{Junction}
 use Rattle.junction_places.specs.Places.{zoneAt, zoneNumbered, zone-numbered-at}
 use Rattle.junction_file.specs.Taken.{Taken}
 use Rattle.junction_figures.specs.Figures.{forward, backward, zoneEntry, pairEntry, pair-least}
-use Rattle.laws.specs.Largest.{largestOf}
-use Prim.Native.Nat.{max}
 use Rattle.junction_phases.specs.JunctionPhases.{isIn, entryBetween, phaseEntry}
 use Rattle.junction_phases.specs.Meaning.{only-at-most, entry-largest}
 

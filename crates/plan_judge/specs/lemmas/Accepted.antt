@@ -18,7 +18,8 @@ use Rattle.streams.specs.Kinds.{isCar}
 use Rattle.junction_file.specs.Reading.{reading}
 use Rattle.junction_file.specs.Taken.{Taken}
 use Rattle.junction_file.specs.TakenFile.{taken}
-use Rattle.junction_figures.specs.Exact.{Clears, pair-exact}
+use Rattle.exact_times.specs.Leaves.{LeavesInTime}
+use Rattle.junction_figures.specs.Exact.{EnoughAt, pair-exact}
 use Rattle.junction_figures.specs.Figures.{forward, backward, pairEntry, streamNeed, streamFlow, streamSaturation}
 use Rattle.plan_file.specs.Plans.{greenOf, planVerdict, planOf}
 use Rattle.plan_file.specs.WellFormed.{PlanRight, plan-right}
@@ -27,7 +28,7 @@ use Rattle.plan_file.specs.declared.Plan.{Plan}
 use Rattle.plan_rules.specs.Rules.{off, needMet, enoughCapacity, capacityMet, zoneClear, zoneMet, rulesVerdict}
 use Rattle.plan_judge.specs.lemmas.Cycles.{all-cycles, Next, Again, next, again}
 use Rattle.plan_judge.specs.Judgement.{planJudgement, judgement}
-use Rattle.plan_judge.specs.Meaning.{begins, ends, LeavesInTime, Before, Apart, Acceptable}
+use Rattle.plan_judge.specs.Meaning.{begins, ends, Before, Distances, distancesOf, Apart, Acceptable}
 
 -- the first two things are the first two rules
 need-exact : (j : Junction) (p : Plan) (n : ℕ) → (needMet j p n ≡ true) ↔ (streamNeed j n (p .cycle) ≤ greenOf p n .length)
@@ -68,25 +69,32 @@ module _ (j : Junction) (t : Taken j) (p : Plan) (r : PlanRight p (j .held .stre
   abbrev Rule : ℕ → ℕ → Type 0
   Rule a b = zoneClear (p .cycle) (greenOf p a) (greenOf p b) (pairEntry j a b) (pairEntry j b a) ≡ true
 
+  -- the greens of a zone's two streams, in their cycles k and m
+  abbrev ZoneApart : Zone → ℕ → ℕ → Type 0
+  ZoneApart z k m = Apart j p (z .a .stream) (z .b .stream) (distancesOf z) k m
+
+  abbrev Leaves : (n m clearing reach gap : ℕ) → Type 0
+  Leaves n m clearing reach gap = LeavesInTime (streamNumbered j n) (streamNumbered j m) clearing reach gap
+
   -- a gap that is at least the pair's entry is enough at each of its zones
   atob : (i : ℕ) → i < j .held .zones → (gap : ℕ) → pairEntry j (zoneAt j i .a .stream) (zoneAt j i .b .stream) ≤ gap
-      → LeavesInTime j (zoneAt j i .a) (zoneAt j i .b) gap
-  unfolding LeavesInTime Clears forward
+      → Leaves (zoneAt j i .a .stream) (zoneAt j i .b .stream) (zoneAt j i .a .clearing) (zoneAt j i .b .reaching) gap
+  unfolding EnoughAt forward
   atob i low gap h =
       let z = zoneAt j i in
       pair-exact j t (z .a .stream) (z .b .stream) gap .0 h i low .0
       (both (eqb (z .a .stream) (z .a .stream)) _ (same-number (z .a .stream)) (same-number (z .b .stream)))
 
   btoa : (i : ℕ) → i < j .held .zones → (gap : ℕ) → pairEntry j (zoneAt j i .b .stream) (zoneAt j i .a .stream) ≤ gap
-      → LeavesInTime j (zoneAt j i .b) (zoneAt j i .a) gap
-  unfolding LeavesInTime Clears backward
+      → Leaves (zoneAt j i .b .stream) (zoneAt j i .a .stream) (zoneAt j i .b .clearing) (zoneAt j i .a .reaching) gap
+  unfolding EnoughAt backward
   btoa i low gap h =
       let z = zoneAt j i in
       pair-exact j t (z .b .stream) (z .a .stream) gap .0 h i low .1
       (both (eqb (z .b .stream) (z .b .stream)) _ (same-number (z .b .stream)) (same-number (z .a .stream)))
 
   -- where the rule holds, the zone's greens are apart in every pair of cycles
-  rule-apart : (i : ℕ) → i < j .held .zones → Rule (zoneAt j i .a .stream) (zoneAt j i .b .stream) → (k m : ℕ) → Apart j p (zoneAt j i) k m
+  rule-apart : (i : ℕ) → i < j .held .zones → Rule (zoneAt j i .a .stream) (zoneAt j i .b .stream) → (k m : ℕ) → ZoneApart (zoneAt j i) k m
   unfolding Apart Before begins ends
   rule-apart i low h k m =
       let z = zoneAt j i in
@@ -110,69 +118,74 @@ module _ (j : Junction) (t : Taken j) (p : Plan) (r : PlanRight p (j .held .stre
     back : Again (p .cycle) (greenOf p a .start) (greenOf p a .length) (greenOf p b .start) (greenOf p b .length)
     back = again (p .cycle) _ _ _ _ (r .start a inA) (r .start b inB) (r .length a inA .0) (r .length b inB .0)
 
-    -- at each of their zones, off less a's length is enough from a to b, and what is left of the cycle from b to a
-    leaves-atob : (z : Zone) → z .a .stream ≡ a → z .b .stream ≡ b → Apart j p z (found .k) (found .m)
-        → LeavesInTime j (z .a) (z .b) (off (p .cycle) (greenOf p a .start) (greenOf p b .start) - greenOf p a .length)
-    unfolding Apart Before begins ends
-    leaves-atob z isA isB x =
-        ⊎-elim
-        (λ (h : Before j p (z .a) (z .b) (found .k) (found .m)). subst (LeavesInTime j (z .a) (z .b)) (rw (isA, isB) (found .gap)) (h .1))
-        (λ (h : Before j p (z .b) (z .a) (found .m) (found .k)). absurd (found .order (rw (isA, isB) at (h .0))))
-        x
+    -- how long after a's green, modulo C, b's begins
+    abbrev after : ℕ
+    after = off (p .cycle) (greenOf p a .start) (greenOf p b .start)
 
-    leaves-btoa : (z : Zone) → z .a .stream ≡ a → z .b .stream ≡ b → Apart j p z (back .k) (back .m)
-        → LeavesInTime j (z .b) (z .a) (p .cycle - (off (p .cycle) (greenOf p a .start) (greenOf p b .start) + greenOf p b .length))
-    unfolding Apart Before begins ends
-    leaves-btoa z isA isB x =
-        ⊎-elim
-        (λ (h : Before j p (z .a) (z .b) (back .k) (back .m)). absurd (back .order (rw (isA, isB) at (h .0))))
-        (λ (h : Before j p (z .b) (z .a) (back .m) (back .k)). subst (LeavesInTime j (z .b) (z .a)) (rw (isA, isB) (back .gap)) (h .1))
-        x
+    -- whatever their distances, where the greens are apart in that pair of cycles: off less a's length is enough from a to b, and what is left of
+    -- the cycle from b to a; and the greens fit between
+    module _ (d : Distances) where
+      leaves-atob : Apart j p a b d (found .k) (found .m)
+          → Leaves a b (d .clearingA) (d .reachingB) (after - greenOf p a .length)
+      unfolding Apart Before begins ends
+      leaves-atob x =
+          ⊎-elim
+          (λ (h : Before j p a b (d .clearingA) (d .reachingB) (found .k) (found .m)).
+          subst (LeavesInTime _ _ (d .clearingA) (d .reachingB)) (found .gap) (h .1))
+          (λ (h : Before j p b a (d .clearingB) (d .reachingA) (found .m) (found .k)). absurd (found .order (h .0)))
+          x
 
-    -- and the greens fit between, as at one zone of theirs
-    room-atob : (z : Zone) → z .a .stream ≡ a → z .b .stream ≡ b → Apart j p z (found .k) (found .m)
-        → greenOf p a .length ≤ off (p .cycle) (greenOf p a .start) (greenOf p b .start)
-    unfolding Apart Before begins ends
-    room-atob z isA isB x =
-        ⊎-elim
-        (λ (h : Before j p (z .a) (z .b) (found .k) (found .m)). found .room (rw (isA, isB) at (h .0)))
-        (λ (h : Before j p (z .b) (z .a) (found .m) (found .k)). absurd (found .order (rw (isA, isB) at (h .0))))
-        x
+      leaves-btoa : Apart j p a b d (back .k) (back .m)
+          → Leaves b a (d .clearingB) (d .reachingA) (p .cycle - (after + greenOf p b .length))
+      unfolding Apart Before begins ends
+      leaves-btoa x =
+          ⊎-elim
+          (λ (h : Before j p a b (d .clearingA) (d .reachingB) (back .k) (back .m)). absurd (back .order (h .0)))
+          (λ (h : Before j p b a (d .clearingB) (d .reachingA) (back .m) (back .k)).
+          subst (LeavesInTime _ _ (d .clearingB) (d .reachingA)) (back .gap) (h .1))
+          x
 
-    room-btoa : (z : Zone) → z .a .stream ≡ a → z .b .stream ≡ b → Apart j p z (back .k) (back .m)
-        → off (p .cycle) (greenOf p a .start) (greenOf p b .start) + greenOf p b .length ≤ p .cycle
-    unfolding Apart Before begins ends
-    room-btoa z isA isB x =
-        ⊎-elim
-        (λ (h : Before j p (z .a) (z .b) (back .k) (back .m)). absurd (back .order (rw (isA, isB) at (h .0))))
-        (λ (h : Before j p (z .b) (z .a) (back .m) (back .k)). back .room (rw (isA, isB) at (h .0)))
-        x
+      room-atob : Apart j p a b d (found .k) (found .m) → greenOf p a .length ≤ after
+      unfolding Apart Before begins ends
+      room-atob x =
+          ⊎-elim
+          (λ (h : Before j p a b (d .clearingA) (d .reachingB) (found .k) (found .m)). found .room (h .0))
+          (λ (h : Before j p b a (d .clearingB) (d .reachingA) (found .m) (found .k)). absurd (found .order (h .0)))
+          x
+
+      room-btoa : Apart j p a b d (back .k) (back .m) → after + greenOf p b .length ≤ p .cycle
+      unfolding Apart Before begins ends
+      room-btoa x =
+          ⊎-elim
+          (λ (h : Before j p a b (d .clearingA) (d .reachingB) (back .k) (back .m)). absurd (back .order (h .0)))
+          (λ (h : Before j p b a (d .clearingB) (d .reachingA) (back .m) (back .k)). back .room (h .0))
+          x
 
     -- where a is below b and the greens are apart at every zone in every pair of two cycles
-    module _ (below : a < b) (all : (i : ℕ) → i < j .held .zones → (k m : ℕ) → k < 2 → m < 2 → Apart j p (zoneAt j i) k m) where
+    module _ (below : a < b) (all : (i : ℕ) → i < j .held .zones → (k m : ℕ) → k < 2 → m < 2 → ZoneApart (zoneAt j i) k m) where
       -- the pair's entries are at most these
-      entry-atob : pairEntry j a b ≤ off (p .cycle) (greenOf p a .start) (greenOf p b .start) - greenOf p a .length
-      unfolding LeavesInTime Clears
+      entry-atob : pairEntry j a b ≤ after - greenOf p a .length
+      unfolding EnoughAt
       entry-atob =
           pair-exact j t a b _ .1
           (λ i low. (
             λ f. let is = forward-is a b (zoneAt j i) f in
-                leaves-atob (zoneAt j i) (is .0) (is .1) (all i low (found .k) (found .m) (found .kLow) (found .mLow)),
+                rw (is .0, is .1) (leaves-atob (distancesOf (zoneAt j i)) (rw (is .0, is .1) at (all i low (found .k) (found .m) (found .kLow) (found .mLow)))),
             λ f. absurd (omega (arith, t .fields .zones i low .below, backward-is a b (zoneAt j i) f)),
           ))
 
-      entry-btoa : pairEntry j b a ≤ p .cycle - (off (p .cycle) (greenOf p a .start) (greenOf p b .start) + greenOf p b .length)
-      unfolding LeavesInTime Clears
+      entry-btoa : pairEntry j b a ≤ p .cycle - (after + greenOf p b .length)
+      unfolding EnoughAt
       entry-btoa =
           pair-exact j t b a _ .1
           (λ i low. (
             λ f. absurd (omega (arith, t .fields .zones i low .below, forward-is b a (zoneAt j i) f)),
             λ f. let is = backward-is b a (zoneAt j i) f in
-                leaves-btoa (zoneAt j i) (is .1) (is .0) (all i low (back .k) (back .m) (back .kLow) (back .mLow)),
+                rw (is .0, is .1) (leaves-btoa (distancesOf (zoneAt j i)) (rw (is .0, is .1) at (all i low (back .k) (back .m) (back .kLow) (back .mLow)))),
           ))
 
   -- where the greens are apart at every zone in every pair of two cycles, every zone's rule holds
-  apart-rule : ((i : ℕ) → i < j .held .zones → (k m : ℕ) → k < 2 → m < 2 → Apart j p (zoneAt j i) k m) → (i : ℕ) → i < j .held .zones
+  apart-rule : ((i : ℕ) → i < j .held .zones → (k m : ℕ) → k < 2 → m < 2 → ZoneApart (zoneAt j i) k m) → (i : ℕ) → i < j .held .zones
       → Rule (zoneAt j i .a .stream) (zoneAt j i .b .stream)
   apart-rule all i low =
       let z = zoneAt j i in
@@ -181,15 +194,15 @@ module _ (j : Junction) (t : Taken j) (p : Plan) (r : PlanRight p (j .held .stre
       let b = z .b .stream in
       let first = found a b (right .a .existing) (right .b .existing) in
       let second = back a b (right .a .existing) (right .b .existing) in
-      let before = room-atob a b (right .a .existing) (right .b .existing) z refl refl (all i low (first .k) (first .m) (first .kLow) (first .mLow)) in
-      let after = room-btoa a b (right .a .existing) (right .b .existing) z refl refl (all i low (second .k) (second .m) (second .kLow) (second .mLow)) in
+      let before = room-atob a b (right .a .existing) (right .b .existing) (distancesOf z) (all i low (first .k) (first .m) (first .kLow) (first .mLow)) in
+      let after = room-btoa a b (right .a .existing) (right .b .existing) (distancesOf z) (all i low (second .k) (second .m) (second .kLow) (second .mLow)) in
       clear-exact (p .cycle) (greenOf p a) (greenOf p b) (pairEntry j a b) (pairEntry j b a) .1 (
         omega (arith, before, entry-atob a b (right .a .existing) (right .b .existing) (right .below) all),
         omega (arith, after, entry-btoa a b (right .a .existing) (right .b .existing) (right .below) all),
       )
 
   zones-exact : ((n : ℕ) → Between 1 (j .held .zones) n → zoneMet j p n ≡ true)
-      ↔ ((n zone : ℕ) → Between 1 (j .held .zones) zone → (k m : ℕ) → k < n → m < n → Apart j p (zoneNumbered j zone) k m)
+      ↔ ((n zone : ℕ) → Between 1 (j .held .zones) zone → (k m : ℕ) → k < n → m < n → ZoneApart (zoneNumbered j zone) k m)
   unfolding zoneMet
   zones-exact = (
     λ met n zone w k m kLow mLow.
