@@ -26,7 +26,12 @@ pub fn body_verdict(
 ) -> Verdict
     ensures { λ r. ⌜ r ≡ bodyVerdict tag (now (b .entry)) at held first second ⌝ }
 {
-    let seven = ask(refers(tag, held.streams, b, first, second), 7, at, Verdict::Passed);
+    let seven = ask(
+        refers(tag, held.streams, b, first, second),
+        7,
+        at,
+        Verdict::Passed,
+    );
     let six = ask(within_limit(tag, held), 6, at, seven);
     let five = ask(in_range(tag, b), 5, at, six);
     let four = ask(length_right(tag, b), 4, at, five);

@@ -84,9 +84,16 @@ search-again c =
 plan-at-requires : tie.Need-plan-at-requires Inv-loop μ-loop Inv-loop2 μ-loop2 Inv-loop3 μ-loop3 Inv-search μ-search
 plan-at-requires c κs =
     let q = c .before .before .before in
-    let l = q .before .before in
-    (l .before .search .inv .0 .taken, (q .before .at-cycle .ensures, (c .before .before .slots-of .ensures ∙ ap (slotsOf _) (q .shared-out .ensures),
-    (not-false _ (ap not (sym (c .before .gives-greens .ensures)) ∙ c .if2 .left), omega (arith, l .if1 .left)))))
+    let l = q .before .before in (
+      l .before .search .inv .0 .taken,
+      (
+        q .before .at-cycle .ensures,
+        (
+          c .before .before .slots-of .ensures ∙ ap (slotsOf _) (q .shared-out .ensures),
+          (not-false _ (ap not (sym (c .before .gives-greens .ensures)) ∙ c .if2 .left), omega (arith, l .if1 .left)),
+        ),
+      ),
+    )
 
 loop-holds : tie.Need-loop-holds Inv-loop μ-loop Inv-loop2 μ-loop2 Inv-loop3 μ-loop3 Inv-search μ-search
 loop-holds c =

@@ -117,8 +117,12 @@ judged : (c : tie.After-body-verdict Inv-loop μ-loop)
 unfolding byteAt
 judged c =
     c .body-verdict .ensures
-    ∙ rw (field-fits (file (answered c)) (place (answered c)) (junction (answered c)) (within (answered c)), body-is (answered c),
-    first-named (c .before .before), second-named (c .before))
+    ∙ rw (
+      field-fits (file (answered c)) (place (answered c)) (junction (answered c)) (within (answered c)),
+      body-is (answered c),
+      first-named (c .before .before),
+      second-named (c .before),
+    )
 
 returns-2 : tie.Need-returns-2 Inv-loop μ-loop
 returns-2 c =

@@ -18,15 +18,27 @@ unfolding refers zoneRefers
 returns-3 c =
     let b = c .before .before .before .before in
     let tags = b .before .before .before in
-    simp (ne-eqb _ _ (tags .before .if1 .left), ne-eqb _ _ (tags .if2 .left), eq-eqb _ _ (b .before .if3 .taken), c .before .before .numbered2 .ensures,
-    c .before .before .before .numbered .ensures, b .byte2 .ensures, b .before .before .byte .ensures)
+    simp (
+      ne-eqb _ _ (tags .before .if1 .left),
+      ne-eqb _ _ (tags .if2 .left),
+      eq-eqb _ _ (b .before .if3 .taken),
+      c .before .before .numbered2 .ensures,
+      c .before .before .before .numbered .ensures,
+      b .byte2 .ensures,
+      b .before .before .byte .ensures,
+    )
 
 returns-4 : tie.Need-returns-4
 unfolding refers
 returns-4 c =
     let tags = c .before .before .before in
-    simp (ne-eqb _ _ (tags .before .if1 .left), ne-eqb _ _ (tags .if2 .left), ne-eqb _ _ (c .before .if3 .left), c .refers-to-car .ensures,
-    c .before .before .byte .ensures)
+    simp (
+      ne-eqb _ _ (tags .before .if1 .left),
+      ne-eqb _ _ (tags .if2 .left),
+      ne-eqb _ _ (c .before .if3 .left),
+      c .refers-to-car .ensures,
+      c .before .before .byte .ensures,
+    )
 
 pub refers-spec : {M : Type 1} → statement M
 refers-spec =

@@ -75,7 +75,7 @@ module _ (s t : List ℕ) (a : SameStart s t) where
       let later = greens-same streams (i + 1) in
       rw (green-same (5 + 8 * i) (i + 1) (omega arith))
       (later-same (greenVerdict s (5 + 8 * i) (i + 1)) _ _
-      (λ p. 
+      (λ p.
       let eight : fieldEnd s (5 + 8 * i) ≡ 5 + 8 * (i + 1) = omega (arith, green-follows s (5 + 8 * i) (i + 1) (due-passed s (5 + 8 * i) _ _ .0 p .awaited)) in
       rw (end-same (5 + 8 * i) (omega arith), eight) (later (omega arith))))
 
