@@ -1,199 +1,238 @@
-// Reads a junction file on standard input and prints its matrix of intergreen times, then each stream's figures; or the refusal. Where
-// standard input cannot be read, it says so on standard error and prints nothing.
+// Prints a junction file's matrix of intergreen times, the pairs that are not checked, and each stream's figures; or the refusal. The file is
+// named by the argument, or is standard input. What fails is told on standard error.
+use console::JUNCTION_ROOM;
+use console::put;
+use console::put_column;
+use console::put_number;
+use dates::Date;
 use fields::Verdict;
 use junction::Junction;
-use libc::STDIN_FILENO;
-use libc::STDOUT_FILENO;
+use junction::Reading;
 use limits::MOST_SECONDS;
-use limits::MOST_STREAMS;
 use streams::Kind;
-use streams::Stream;
 use streams::TramFigures;
 
+// What is printed: a table with a line for each stream.
+enum Table {
+    Matrix,
+    Unchecked,
+    Streams,
+}
+
 fn main() {
-    // One byte more than a file may have, so that a longer one is refused by the library.
-    let mut buffer = [0u8; 16385];
-    let n = io::read_full(STDIN_FILENO, &mut buffer);
-    if !at_end(n) {
-        os::fail(b"intergreens: standard input");
+    if !((os::arg_count() <= 2) & console::is_name(1)) {
+        console::usage(b"intergreens [JUNCTION-FILE]");
         return;
     }
-    answer(&buffer[0..n]);
+    let mut junction = [0; JUNCTION_ROOM];
+    tell_input(&mut junction);
 }
 
-// Whether the buffer is full or nothing is left to read.
-fn at_end(size: usize) -> bool {
-    if size == 16385 {
-        return true;
+// The lent buffer takes the junction file.
+fn tell_input(junction: &mut [u8]) {
+    let got = console::read_input(b"intergreens", 1, junction);
+    if got.read {
+        let n = got.size;
+        answer(&junction[0..n]);
     }
-    let mut more = [0; 1];
-    libc::read(STDIN_FILENO, &mut more) == 0
 }
 
-fn answer(file: &[u8]) {
-    let reading = junction_file::read(file);
+fn answer(junction: &[u8]) {
+    // Sixteen streams take some 5,000 bytes.
+    let mut text = [0u8; 16384];
+    let n = put_answer(junction_file::read(junction), &mut text);
+    console::write_text(b"intergreens", &text, n);
+}
+
+fn put_answer(reading: Reading, out: &mut [u8]) -> usize {
     let verdict = reading.verdict;
     match verdict {
-        Verdict::Passed => {
-            let j = reading.junction;
-            matrix(j);
-            table(j);
-        }
-        Verdict::Refused { number, place } => refusal(number, place),
+        Verdict::Passed => put_figures(reading.junction, out),
+        Verdict::Refused { number, place } => console::put_refusal(out, 0, number, place),
     }
 }
 
-fn refusal(number: u8, place: usize) {
-    put(b"refused ");
-    io::print_decimal(STDOUT_FILENO, number as u64);
-    put(b" ");
-    io::print_decimal(STDOUT_FILENO, place as u64);
-    put(b"\n");
-}
-
-fn put(text: &[u8]) {
-    io::write_all(STDOUT_FILENO, text);
-}
-
-// A number in a column of five.
-fn column(n: u64) {
-    if n < 10000 {
-        put(b" ");
-    }
-    if n < 1000 {
-        put(b" ");
-    }
-    if n < 100 {
-        put(b" ");
-    }
-    if n < 10 {
-        put(b" ");
-    }
-    io::print_decimal(STDOUT_FILENO, n);
-}
-
-fn matrix(j: Junction) {
-    put(
-        b"Intergreen times in s, from the stream that clears (down) to the stream that starts (across)\n",
+fn put_figures(j: Junction, out: &mut [u8]) -> usize {
+    let title = put(
+        out,
+        0,
+        b"Intergreen times in s, from the stream that clears (down) to the stream that starts (across); . same phase, - not checked\n     ",
     );
-    put(b"     ");
-    heading(j);
-    put(b"\n");
-    rows(j);
-    put(b"\n");
+    let head = put_pairs(j, Table::Matrix, 0, out, title);
+    let begin = put(out, head, b"\n");
+    let matrix = put_lines(j, Table::Matrix, out, begin);
+    let unchecked = put_unchecked(j, out, matrix);
+    let streams = put(out, unchecked, b"\n\nStreams\n");
+    put_lines(j, Table::Streams, out, streams)
 }
 
-fn heading(j: Junction) {
-    let n = j.held.streams;
-    for i in 0..MOST_STREAMS {
-        if i < n {
-            column(i as u64 + 1);
-        }
+// The pairs that are not checked, on one line.
+fn put_unchecked(j: Junction, out: &mut [u8], at: usize) -> usize {
+    let begin = put(
+        out,
+        at,
+        b"not checked, in different phases without a zone:",
+    );
+    let end = put_lines(j, Table::Unchecked, out, begin);
+    if end == begin {
+        return put(out, end, b" none");
+    }
+    end
+}
+
+// What a table has for each stream.
+fn put_lines(j: Junction, table: Table, out: &mut [u8], at: usize) -> usize {
+    let streams = j.held.streams;
+    let mut next = at;
+    let mut i: usize = 0;
+    while i < streams {
+        next = put_line(j, table, i + 1, out, next);
+        i += 1;
+    }
+    next
+}
+
+// What it has from a stream to each stream; from 0, the streams' numbers.
+fn put_pairs(j: Junction, table: Table, from: usize, out: &mut [u8], at: usize) -> usize {
+    let streams = j.held.streams;
+    let mut next = at;
+    let mut i: usize = 0;
+    while i < streams {
+        next = put_pair(j, table, from, i + 1, out, next);
+        i += 1;
+    }
+    next
+}
+
+fn put_line(j: Junction, table: Table, n: usize, out: &mut [u8], at: usize) -> usize {
+    match table {
+        Table::Matrix => put_row(j, n, out, at),
+        Table::Unchecked => put_pairs(j, Table::Unchecked, n, out, at),
+        Table::Streams => put_stream(j, n, out, at),
     }
 }
 
-fn rows(j: Junction) {
-    let n = j.held.streams;
-    for i in 0..MOST_STREAMS {
-        if i < n {
-            row(j, i + 1);
-        }
+fn put_pair(
+    j: Junction,
+    table: Table,
+    from: usize,
+    to: usize,
+    out: &mut [u8],
+    at: usize,
+) -> usize {
+    match table {
+        Table::Matrix => put_cell(j, from, to, out, at),
+        Table::Unchecked => put_missing(j, from, to, out, at),
+        Table::Streams => at,
     }
 }
 
-fn row(j: Junction, from: usize) {
-    column(from as u64);
-    cells(j, from);
-    put(b"\n");
+fn put_row(j: Junction, from: usize, out: &mut [u8], at: usize) -> usize {
+    let number = put_column(out, at, from as u64);
+    let cells = put_pairs(j, Table::Matrix, from, out, number);
+    put(out, cells, b"\n")
 }
 
-fn cells(j: Junction, from: usize) {
-    let n = j.held.streams;
-    for i in 0..MOST_STREAMS {
-        if i < n {
-            cell(j, from, i + 1);
-        }
+fn put_cell(j: Junction, from: usize, to: usize, out: &mut [u8], at: usize) -> usize {
+    if from == 0 {
+        return put_column(out, at, to as u64);
     }
-}
-
-fn cell(j: Junction, from: usize, to: usize) {
     if junction_figures::shares_zone(j, from, to) {
-        column(junction_figures::pair_entry(j, from, to) as u64);
-        return;
+        return put_column(out, at, junction_figures::pair_entry(j, from, to) as u64);
     }
-    put(b"    -");
-}
-
-fn table(j: Junction) {
-    put(b"Streams\n");
-    lines(j);
-}
-
-fn lines(j: Junction) {
-    let n = j.held.streams;
-    for i in 0..MOST_STREAMS {
-        if i < n {
-            line(j, i + 1);
-        }
+    if junction_figures::unchecked(j, from, to) {
+        return put(out, at, b"    -");
     }
+    put(out, at, b"    .")
 }
 
-fn line(j: Junction, n: usize) {
+// A pair that is not checked, once.
+fn put_missing(j: Junction, from: usize, to: usize, out: &mut [u8], at: usize) -> usize {
+    if !((from < to) & junction_figures::unchecked(j, from, to)) {
+        return at;
+    }
+    let blank = put(out, at, b" ");
+    let first = put_number(out, blank, from as u64);
+    let hyphen = put(out, first, b"-");
+    put_number(out, hyphen, to as u64)
+}
+
+fn put_stream(j: Junction, n: usize, out: &mut [u8], at: usize) -> usize {
     let s = junction_places::stream_numbered(j, n);
-    column(n as u64);
-    put(b"  phase ");
-    io::print_decimal(STDOUT_FILENO, s.phase as u64);
-    kind(j, n, s);
-    put(b"\n");
+    let number = put_column(out, at, n as u64);
+    let word = put(out, number, b"  phase ");
+    let phase = put_number(out, word, s.phase as u64);
+    let kind = s.kind;
+    let figures = put_kind(j, n, kind, out, phase);
+    put(out, figures, b"\n")
 }
 
-fn kind(j: Junction, n: usize, s: Stream) {
-    let kind = s.kind;
+fn put_kind(j: Junction, n: usize, kind: Kind, out: &mut [u8], at: usize) -> usize {
     match kind {
-        Kind::Car(_) => car(j, n),
-        Kind::Tram(t) => tram(j, n, t),
-        Kind::Pedestrian(_) => {
-            put(b"  pedestrian  needs ");
-            need(j, n, MOST_SECONDS);
-        }
-        Kind::Cyclist(_) => {
-            put(b"  cyclist     needs ");
-            need(j, n, MOST_SECONDS);
-        }
+        Kind::Car(_) => put_car(j, n, out, at),
+        Kind::Tram(t) => put_tram(j, n, t, out, at),
+        Kind::Pedestrian(_) => put_need(j, n, b"  pedestrian  needs ", MOST_SECONDS, out, at),
+        Kind::Cyclist(_) => put_need(j, n, b"  cyclist     needs ", MOST_SECONDS, out, at),
     }
 }
 
-fn need(j: Junction, n: usize, cycle: u16) {
-    io::print_decimal(
-        STDOUT_FILENO,
+fn put_need(
+    j: Junction,
+    n: usize,
+    words: &[u8],
+    cycle: u16,
+    out: &mut [u8],
+    at: usize,
+) -> usize {
+    let begin = put(out, at, words);
+    let number = put_number(
+        out,
+        begin,
         junction_figures::stream_need(j, n, cycle) as u64,
     );
-    put(b" s");
+    put(out, number, b" s")
 }
 
-fn car(j: Junction, n: usize) {
-    put(b"  car         needs ");
-    need(j, n, MOST_SECONDS);
-    put(b"   flow ");
-    io::print_decimal(STDOUT_FILENO, junction_figures::stream_flow(j, n) as u64);
-    put(b" E/h counted on day ");
-    io::print_decimal(STDOUT_FILENO, junction_figures::stream_day(j, n) as u64);
-    put(b"   S ");
-    io::print_decimal(
-        STDOUT_FILENO,
+fn put_car(j: Junction, n: usize, out: &mut [u8], at: usize) -> usize {
+    let need = put_need(j, n, b"  car         needs ", MOST_SECONDS, out, at);
+    let flow = put_flow(j, n, out, need);
+    let first = put(out, flow, b"   S ");
+    let saturation = put_number(
+        out,
+        first,
         junction_figures::stream_saturation(j, n) as u64,
     );
-    put(b" E/h   y ");
-    io::print_decimal(STDOUT_FILENO, junction_figures::stream_ratio(j, n) as u64);
-    put(b" ten-thousandths");
+    let second = put(out, saturation, b" E/h   y ");
+    console::put_ten_thousandths(
+        out,
+        second,
+        junction_figures::stream_ratio(j, n) as u64,
+    )
 }
 
-fn tram(j: Junction, n: usize, t: TramFigures) {
+// A car's flow, and the day of the count that gives it: its date and its number.
+fn put_flow(j: Junction, n: usize, out: &mut [u8], at: usize) -> usize {
+    let day = junction_figures::stream_day(j, n);
+    let first = put(out, at, b"   flow ");
+    let flow = put_number(out, first, junction_figures::stream_flow(j, n) as u64);
+    let second = put(out, flow, b" E/h counted on ");
+    let date = put_date(dates::date_of(day), out, second);
+    let third = put(out, date, b", day ");
+    put_number(out, third, day as u64)
+}
+
+fn put_date(date: Date, out: &mut [u8], at: usize) -> usize {
+    let year = put_number(out, at, date.year as u64);
+    let first = put(out, year, b"-");
+    let month = console::put_padded(out, first, date.month as u64, 2, b'0');
+    let second = put(out, month, b"-");
+    console::put_padded(out, second, date.day as u64, 2, b'0')
+}
+
+fn put_tram(j: Junction, n: usize, t: TramFigures, out: &mut [u8], at: usize) -> usize {
     let cycle = flows::longest_cycle(t.hourly);
-    put(b"  tram        needs ");
-    need(j, n, cycle);
-    put(b" up to a cycle of ");
-    io::print_decimal(STDOUT_FILENO, cycle as u64);
-    put(b" s, then ");
-    need(j, n, MOST_SECONDS);
+    let need = put_need(j, n, b"  tram        needs ", cycle, out, at);
+    let first = put(out, need, b" up to a cycle of ");
+    let number = put_number(out, first, cycle as u64);
+    put_need(j, n, b" s, then ", MOST_SECONDS, out, number)
 }

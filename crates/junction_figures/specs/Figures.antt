@@ -1,6 +1,6 @@
 -- The annex's figures of a junction that was read: entries of pairs, needs, flows, saturation flows, flow ratios.
 use Prim.Native.Nat.{ℕ, _≤_, _<_}
-use mathlib.Core.Bool.{Bool, _&&_, _||_, cond}
+use mathlib.Core.Bool.{Bool, _&&_, _||_, not, cond}
 use mathlib.Core.Logic.{_↔_}
 use lib.Dec.{ltb, eqb}
 use Rattle.laws.specs.Largest.{largestOf, largest-at-most}
@@ -53,6 +53,10 @@ firstShared j n m = firstBelow (sharesAt j n m) (j .held .zones) 0
 
 unfoldable pub sharesZone : Junction → ℕ → ℕ → Bool
 sharesZone j n m = ltb (firstShared j n m) (j .held .zones)
+
+-- two streams in different phases that share no zone: nothing is asked of their greens
+unfoldable pub unchecked : Junction → ℕ → ℕ → Bool
+unchecked j n m = not (eqb (streamNumbered j n .phase) (streamNumbered j m .phase)) && not (sharesZone j n m)
 
 -- the needed green of the stream with a number, at a cycle
 unfoldable pub streamNeed : Junction → ℕ → ℕ → ℕ

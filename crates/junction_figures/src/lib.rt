@@ -1,7 +1,7 @@
 // The annex's figures of a junction that was read. Streams are named by their numbers, from 1.
 ghost use mathlib.Core.Path.{_≡_};
 ghost use Prim.Native.Nat.{max};
-ghost use Rattle.junction_figures.specs.Figures.{forward as forwardAt, backward as backwardAt, entryAt, pairEntry, sharesAt, firstShared, sharesZone, streamNeed, streamFlow, streamDay, kindSaturation, streamSaturation, streamRatio};
+ghost use Rattle.junction_figures.specs.Figures.{forward as forwardAt, backward as backwardAt, entryAt, pairEntry, sharesAt, firstShared, sharesZone, unchecked as uncheckedPair, streamNeed, streamFlow, streamDay, kindSaturation, streamSaturation, streamRatio};
 use junction::Junction;
 use junction::Zone;
 use laws::u16_larger;
@@ -60,6 +60,15 @@ pub fn shares_zone(j: Junction, n: usize, m: usize) -> bool
     ensures { λ r. ⌜ r ≡ sharesZone j n m ⌝ }
 {
     first_shared(j, n, m) < j.held.zones
+}
+
+// Whether two streams are in different phases and share no zone, so that nothing is asked of their greens.
+pub fn unchecked(j: Junction, n: usize, m: usize) -> bool
+    ensures { λ r. ⌜ r ≡ uncheckedPair j n m ⌝ }
+{
+    let first = junction_places::stream_numbered(j, n);
+    let second = junction_places::stream_numbered(j, m);
+    !(first.phase == second.phase) & !shares_zone(j, n, m)
 }
 
 fn first_shared(j: Junction, n: usize, m: usize) -> usize

@@ -1,76 +1,95 @@
-// Reads a junction file on standard input and prints its plan: the cycle, then each stream's number, start and length in seconds; or the
-// refusal. Where standard input cannot be read, it says so on standard error and prints nothing.
+// Works out a plan for a junction file, which the first argument names or standard input is, and prints it: the cycle, then each stream's number,
+// start and length in seconds; or the refusal. Where a second argument names a new file, the plan file is written there, before the plan is
+// printed. What fails is told on standard error.
+use console::JUNCTION_ROOM;
 use fields::Verdict;
-use libc::STDIN_FILENO;
-use libc::STDOUT_FILENO;
 use limits::MOST_STREAMS;
 use plan_file::Plan;
 
 fn main() {
-    // One byte more than a file may have, so that a longer one is refused by the library.
-    let mut buffer = [0u8; 16385];
-    let n = io::read_full(STDIN_FILENO, &mut buffer);
-    if !at_end(n) {
-        os::fail(b"plan: standard input");
+    if !((os::arg_count() <= 3) & console::is_name(1) & console::is_name(2)) {
+        console::usage(b"plan [JUNCTION-FILE [NEW-PLAN-FILE]]");
         return;
     }
-    answer(&buffer[0..n]);
+    let mut junction = [0; JUNCTION_ROOM];
+    plan_input(&mut junction);
 }
 
-// Whether the buffer is full or nothing is left to read.
-fn at_end(size: usize) -> bool {
-    if size == 16385 {
+// The lent buffer takes the junction file.
+fn plan_input(junction: &mut [u8]) {
+    let got = console::read_input(b"plan", 1, junction);
+    if got.read {
+        let n = got.size;
+        answer(&junction[0..n]);
+    }
+}
+
+fn answer(junction: &[u8]) {
+    // Room for a plan of sixteen streams.
+    let mut plan = [0u8; 133];
+    let worked = planner::work_out(junction, &mut plan);
+    let verdict = worked.verdict;
+    let size = worked.size;
+    tell(verdict, &plan[0..size]);
+}
+
+fn tell(verdict: Verdict, plan: &[u8]) {
+    match verdict {
+        Verdict::Passed => tell_plan(plan),
+        Verdict::Refused { number, place } => tell_refusal(number, place),
+    }
+}
+
+fn tell_refusal(number: u8, place: usize) {
+    let mut text = [0u8; 64];
+    let n = console::put_refusal(&mut text, 0, number, place);
+    console::write_text(b"plan", &text, n);
+}
+
+// Writes the plan file where a second argument names it, then prints the plan.
+fn tell_plan(plan: &[u8]) {
+    if kept(plan) {
+        let mut text = [0u8; 512];
+        let n = put_plan(plan, &mut text);
+        console::write_text(b"plan", &text, n);
+    }
+}
+
+fn kept(plan: &[u8]) -> bool {
+    if os::arg_count() < 3 {
         return true;
     }
-    let mut more = [0; 1];
-    libc::read(STDIN_FILENO, &mut more) == 0
+    console::write_new(b"plan", 2, plan)
 }
 
-fn answer(file: &[u8]) {
-    // Room for a plan of sixteen streams.
-    let mut out = [0u8; 133];
-    let worked = planner::work_out(file, &mut out);
-    let verdict = worked.verdict;
-    match verdict {
-        Verdict::Passed => lines(plan_file::plan_of(&out), worked.size),
-        Verdict::Refused { number, place } => refusal(number, place),
-    }
-}
-
-fn refusal(number: u8, place: usize) {
-    put(b"refused ");
-    io::print_decimal(STDOUT_FILENO, number as u64);
-    put(b" ");
-    io::print_decimal(STDOUT_FILENO, place as u64);
-    put(b"\n");
-}
-
-fn put(text: &[u8]) {
-    io::write_all(STDOUT_FILENO, text);
-}
-
-fn lines(p: Plan, size: usize) {
-    put(b"cycle ");
-    io::print_decimal(STDOUT_FILENO, p.cycle as u64);
-    put(b"\n");
-    greens(p, size);
+fn put_plan(plan: &[u8], out: &mut [u8]) -> usize {
+    let p = plan_file::plan_of(plan);
+    let word = console::put(out, 0, b"cycle ");
+    let number = console::put_number(out, word, p.cycle as u64);
+    let line = console::put(out, number, b"\n");
+    put_greens(p, plan.len(), out, line)
 }
 
 // A line for each green of a plan file of so many bytes.
-fn greens(p: Plan, size: usize) {
-    for i in 0..MOST_STREAMS {
-        if 5 + 8 * i < size {
-            line(p, i + 1);
+fn put_greens(p: Plan, size: usize, out: &mut [u8], at: usize) -> usize {
+    let mut next = at;
+    let mut i: usize = 0;
+    while i < MOST_STREAMS {
+        if size <= 5 + 8 * i {
+            break;
         }
+        next = put_green(p, i + 1, out, next);
+        i += 1;
     }
+    next
 }
 
-fn line(p: Plan, n: usize) {
+fn put_green(p: Plan, n: usize, out: &mut [u8], at: usize) -> usize {
     let green = plan_file::green_of(p, n);
-    io::print_decimal(STDOUT_FILENO, n as u64);
-    put(b" ");
-    io::print_decimal(STDOUT_FILENO, green.start as u64);
-    put(b" ");
-    io::print_decimal(STDOUT_FILENO, green.length as u64);
-    put(b"\n");
+    let stream = console::put_number(out, at, n as u64);
+    let first = console::put(out, stream, b" ");
+    let start = console::put_number(out, first, green.start as u64);
+    let second = console::put(out, start, b" ");
+    let length = console::put_number(out, second, green.length as u64);
+    console::put(out, length, b"\n")
 }

@@ -1,5 +1,5 @@
 -- Every plan that is worked out is well-formed and accepted: the bytes written, judged with the junction file that they were worked out from.
-use Prim.Native.Nat.{ℕ}
+use Prim.Native.Nat.{ℕ, _≤_, zero-le}
 use native.Mathlib.Omega.{arith}
 use mathlib.Core.Bool.{true, not, true≢false}
 use mathlib.Core.List.{List}
@@ -15,7 +15,7 @@ use Rattle.junction_file.specs.Reading.{reading}
 use Rattle.junction_file.specs.Taken.{Taken}
 use Rattle.junction_file.specs.TakenFile.{taken}
 use Rattle.plan_file.specs.Plans.{planVerdict}
-use Rattle.plan_file.specs.Writing.{planFile, planSize, written-file}
+use Rattle.plan_file.specs.Writing.{planFile, planSize, has-room, written-file}
 use Rattle.phase_greens.specs.Greens.{givesGreens}
 use Rattle.junction_phases.specs.JunctionPhases.{phasesAt}
 use Rattle.plan_rules.specs.Rules.{rulesVerdict}
@@ -67,3 +67,12 @@ planned-accepted junction lent e =
 pub planned-formed : (junction lent : List ℕ) → worked junction (length lent) .verdict ≡ Passed
     → planVerdict (take (planSize (reading junction .junction .held .streams)) (buffer junction lent)) (reading junction .junction .held .streams) ≡ Passed
 planned-formed junction lent e = only-acceptable junction (take (planSize (reading junction .junction .held .streams)) (buffer junction lent)) .0 (planned-accepted junction lent e) .1
+
+-- the plan file's size is at most the buffer's
+pub size-within : (junction : List ℕ) (room : ℕ) → worked junction room .size ≤ room
+unfolding worked junctionWorked
+size-within junction room =
+    let j = reading junction .junction in
+    by-test (isRefused (reading junction .verdict)) (λ e. rw e zero-le)
+    (λ e. by-test (isRefused (junctionVerdict j room)) (λ r. rw (e, r) zero-le)
+    (λ r. rw (e, r) (has-room (j .held .streams) room (room-found j room (not-refused _ r)) .1)))
