@@ -43,28 +43,85 @@ same "a junction of 20,000 bytes" 'refused 1 0\n' '' $judge "$work/zeros" $plan
 same "no such junction" '' "$work/none: No such file or directory\n" $judge "$work/none" $plan
 same "no such plan" '' "$work/none: No such file or directory\n" $judge $junction "$work/none"
 same "a folder for a plan" '' "$work: Is a directory\n" $judge $junction "$work"
-same "one name" '' 'usage: judge JUNCTION-FILE PLAN-FILE\n' $judge $junction
-same "an empty name" '' 'judge: a file name is empty or too long\n' $judge '' $plan
-same "three names" '' 'usage: judge JUNCTION-FILE PLAN-FILE\n' $judge $junction $plan $plan
 
 for f in examples/*.junction; do
     same "plan of $f" "$(cat "${f%.junction}.txt")\n" '' sh -c "target/bin/plan < $f"
+    same "plan of $f, by name" "$(cat "${f%.junction}.txt")\n" '' target/bin/plan "$f"
 done
-same "intergreens of the example" "$(cat crates/intergreens/stdout)\n" '' sh -c 'target/bin/intergreens < examples/four_phases.junction'
-same "intergreens of the whole case" 'Intergreen times in s, from the stream that clears (down) to the stream that starts (across)
+same "intergreens of the example" "$(cat crates/intergreens/stdout)\n" '' target/bin/intergreens examples/four_phases.junction
+same "intergreens of the whole case" 'Intergreen times in s, from the stream that clears (down) to the stream that starts (across); . same phase, - not checked
          1    2
-    1    -    5
-    2    4    -
+    1    .    5
+    2    4    .
+not checked, in different phases without a zone: none
 
 Streams
-    1  phase 1  car         needs 8 s   flow 600 E/h counted on day 9000   S 1925 E/h   y 3117 ten-thousandths
+    1  phase 1  car         needs 8 s   flow 600 E/h counted on 2024-08-22, day 9000   S 1925 E/h   y 0.3117
     2  phase 2  pedestrian  needs 6 s\n' '' sh -c 'target/bin/intergreens < examples/whole_case.junction'
 
+# The plan that `plan` keeps is the one that `judge` accepts. A file that is there is never written over, and a refusal makes none.
+same "plan keeps its file" "$(cat examples/whole_case.txt)\n" '' target/bin/plan $junction "$work/kept.plan"
+cmp $plan "$work/kept.plan" || failed=1
+same "judge of the plan kept" 'accepted\n' '' $judge $junction "$work/kept.plan"
+same "plan over a file" '' "$work/kept.plan: File exists\n" target/bin/plan examples/four_phases.junction "$work/kept.plan"
+cmp $plan "$work/kept.plan" || failed=1
+cp $junction "$work/junction"
+same "plan over its junction" '' "$work/junction: File exists\n" target/bin/plan "$work/junction" "$work/junction"
+cmp $junction "$work/junction" || failed=1
+same "plan of a refused junction" 'refused 22 0\n' '' target/bin/plan examples/refused_22.junction "$work/refused.plan"
+[ ! -e "$work/refused.plan" ] || { echo "programs: a refusal makes a plan file"; failed=1; }
+same "plan into no folder" '' "$work/none/plan: No such file or directory\n" target/bin/plan $junction "$work/none/plan"
+same "plan onto a full device" '' '/dev/full: File exists\n' target/bin/plan $junction /dev/full
+
+# Bad input and output, of each program that reads a junction: by standard input, then by name.
+printf 'cycle 50\n1 0 35\n' > "$work/text"
+head -c 1048576 /dev/zero > "$work/megabyte"
+long=$(printf '%05000d' 0)
+component=$(printf '%0256d' 0)
 for program in plan intergreens; do
-    same "$program of nothing" 'refused 8 0\n' '' sh -c "target/bin/$program < /dev/null"
-    same "$program of 16,384 bytes" 'refused 3 0\n' '' sh -c "head -c 16384 /dev/zero | target/bin/$program"
-    same "$program of 20,000 bytes" 'refused 1 0\n' '' sh -c "head -c 20000 /dev/zero | target/bin/$program"
-    same "$program of a folder" '' "$program: standard input: Is a directory\n" sh -c "target/bin/$program < examples"
+    bin=target/bin/$program
+    case $program in
+    plan) words='plan [JUNCTION-FILE [NEW-PLAN-FILE]]' ;;
+    *) words='intergreens [JUNCTION-FILE]' ;;
+    esac
+    same "$program of nothing" 'refused 8 0\n' '' sh -c "$bin < /dev/null"
+    same "$program of 16,384 bytes" 'refused 3 0\n' '' sh -c "head -c 16384 /dev/zero | $bin"
+    same "$program of 20,000 bytes" 'refused 1 0\n' '' sh -c "head -c 20000 /dev/zero | $bin"
+    same "$program of a folder" '' "$program: standard input: Is a directory\n" sh -c "$bin < examples"
+    same "$program of what cannot be read" '' "$program: standard input: Input/output error\n" sh -c "$bin < /proc/self/mem"
+    same "$program of a closed input" '' "$program: standard input: Bad file descriptor\n" sh -c "$bin <&-"
+    same "$program to a full output" '' "$program: standard output: No space left on device\n" sh -c "$bin < $junction > /dev/full"
+    same "$program to a closed output" '' "$program: standard output: Bad file descriptor\n" sh -c "$bin < $junction >&-"
+    same "$program of no file" '' "$work/none: No such file or directory\n" $bin "$work/none"
+    same "$program of a folder's name" '' "$work: Is a directory\n" $bin "$work"
+    same "$program of a file that cannot be read" '' '/proc/self/mem: Input/output error\n' $bin /proc/self/mem
+    same "$program of an empty file" 'refused 8 0\n' '' $bin "$work/empty"
+    same "$program of text" 'refused 2 0\n' '' $bin "$work/text"
+    same "$program of a megabyte" 'refused 1 0\n' '' $bin "$work/megabyte"
+    same "$program of an empty name" '' "$program: a file name is empty or too long\n" $bin ''
+    same "$program of a name of 5,000 bytes" '' "$program: a file name is empty or too long\n" $bin "$long"
+    same "$program of a name that is too long for a file" '' "$component: File name too long\n" $bin "$component"
+    for option in -h --help -; do
+        same "$program $option" '' "usage: $words\n" $bin $option
+    done
+    same "$program with too many arguments" '' "usage: $words\n" $bin $junction "$work/a" "$work/b"
 done
+
+same "judge with one name" '' 'usage: judge JUNCTION-FILE PLAN-FILE\n' $judge $junction
+same "judge with three names" '' 'usage: judge JUNCTION-FILE PLAN-FILE\n' $judge $junction $plan $plan
+same "judge -h" '' 'usage: judge JUNCTION-FILE PLAN-FILE\n' $judge -h
+same "judge --help and a name" '' 'usage: judge JUNCTION-FILE PLAN-FILE\n' $judge --help $plan
+same "judge with an option for a plan" '' 'usage: judge JUNCTION-FILE PLAN-FILE\n' $judge $junction -x
+same "judge of an empty name" '' 'judge: a file name is empty or too long\n' $judge '' $plan
+same "judge of a plan's name of 5,000 bytes" '' 'judge: a file name is empty or too long\n' $judge $junction "$long"
+same "judge of a junction that cannot be read" '' '/proc/self/mem: Input/output error\n' $judge /proc/self/mem $plan
+same "judge of a plan that cannot be read" '' '/proc/self/mem: Input/output error\n' $judge $junction /proc/self/mem
+same "judge of text for a junction" 'refused 2 0\n' '' $judge "$work/text" $plan
+same "judge of text for a plan" 'refused 11 0\n' '' $judge $junction "$work/text"
+same "judge of a megabyte for a junction" 'refused 1 0\n' '' $judge "$work/megabyte" $plan
+same "judge of a megabyte for a plan" 'refused 12 0\n' '' $judge $junction "$work/megabyte"
+same "judge with its input closed" 'accepted\n' '' sh -c "$judge $junction $plan <&-"
+same "judge to a full output" '' 'judge: standard output: No space left on device\n' sh -c "$judge $junction $plan > /dev/full"
+same "judge to a closed output" '' 'judge: standard output: Bad file descriptor\n' sh -c "$judge $junction $plan >&-"
 [ $failed = 0 ] && echo "programs: judge, plan and intergreens write what they should"
 exit $failed

@@ -10,6 +10,7 @@ use limits::MOST_BYTES;
 // Room for a junction file and one byte more, so that a longer one is refused by the library; and for as many bytes of a plan file as can
 // matter: later bytes change no answer (plan_judge/specs/Long.antt).
 pub const JUNCTION_ROOM: usize = MOST_BYTES + 1;
+
 pub const PLAN_ROOM: usize = 65672;
 
 // Whether an input was read, and how many of its bytes are in the lent buffer.

@@ -68,11 +68,7 @@ fn put_figures(j: Junction, out: &mut [u8]) -> usize {
 
 // The pairs that are not checked, on one line.
 fn put_unchecked(j: Junction, out: &mut [u8], at: usize) -> usize {
-    let begin = put(
-        out,
-        at,
-        b"not checked, in different phases without a zone:",
-    );
+    let begin = put(out, at, b"not checked, in different phases without a zone:");
     let end = put_lines(j, Table::Unchecked, out, begin);
     if end == begin {
         return put(out, end, b" none");
@@ -112,14 +108,7 @@ fn put_line(j: Junction, table: Table, n: usize, out: &mut [u8], at: usize) -> u
     }
 }
 
-fn put_pair(
-    j: Junction,
-    table: Table,
-    from: usize,
-    to: usize,
-    out: &mut [u8],
-    at: usize,
-) -> usize {
+fn put_pair(j: Junction, table: Table, from: usize, to: usize, out: &mut [u8], at: usize) -> usize {
     match table {
         Table::Matrix => put_cell(j, from, to, out, at),
         Table::Unchecked => put_missing(j, from, to, out, at),
@@ -176,14 +165,7 @@ fn put_kind(j: Junction, n: usize, kind: Kind, out: &mut [u8], at: usize) -> usi
     }
 }
 
-fn put_need(
-    j: Junction,
-    n: usize,
-    words: &[u8],
-    cycle: u16,
-    out: &mut [u8],
-    at: usize,
-) -> usize {
+fn put_need(j: Junction, n: usize, words: &[u8], cycle: u16, out: &mut [u8], at: usize) -> usize {
     let begin = put(out, at, words);
     let number = put_number(
         out,
@@ -197,17 +179,9 @@ fn put_car(j: Junction, n: usize, out: &mut [u8], at: usize) -> usize {
     let need = put_need(j, n, b"  car         needs ", MOST_SECONDS, out, at);
     let flow = put_flow(j, n, out, need);
     let first = put(out, flow, b"   S ");
-    let saturation = put_number(
-        out,
-        first,
-        junction_figures::stream_saturation(j, n) as u64,
-    );
+    let saturation = put_number(out, first, junction_figures::stream_saturation(j, n) as u64);
     let second = put(out, saturation, b" E/h   y ");
-    console::put_ten_thousandths(
-        out,
-        second,
-        junction_figures::stream_ratio(j, n) as u64,
-    )
+    console::put_ten_thousandths(out, second, junction_figures::stream_ratio(j, n) as u64)
 }
 
 // A car's flow, and the day of the count that gives it: its date and its number.
