@@ -1,10 +1,10 @@
 #!/bin/sh
 # install.sh [PREFIX]: looks at what tools/install has installed below PREFIX; without a PREFIX, installs into a temporary folder first. Builds a C
 # program outside the repository by pkg-config alone, runs the installed programs and `accepted`, and holds the Python module to the stored cases.
+prefix=${1:+$(CDPATH= cd "$1" && pwd)} || exit 1
 cd "$(dirname "$0")/.." || exit 1
 work=$(mktemp -d) || exit 1
 trap 'rm -rf "$work"' EXIT
-prefix=$1
 if [ -z "$prefix" ]; then
     tests/tools.sh || exit 1
     prefix="$work/a prefix"
