@@ -48,7 +48,7 @@ objdump -h target/staticlib/libgivendra.a | grep ' ALLOC' | grep -v READONLY && 
 called=$(nm --undefined-only target/staticlib/libgivendra.a | sed -n 's/^ *U //p' | tr '\n' ' ')
 [ "$called" = "memcpy memset " ] || { echo "library: the archive calls $called"; failed=1; }
 compiled gcc -std=c99 tests/stack.c
-bytes=$("$work/program" examples/*.junction) || { echo "library: a call takes $bytes bytes of stack"; failed=1; }
+bytes=$("$work/program" examples/*.junction) || { echo "library: a call takes $bytes bytes of stack, not less than GIVENDRA_STACK"; failed=1; }
 [ $failed = 0 ] && echo "library: the archive has no memory of its own, and a call takes at most $bytes bytes of stack"
 
 # fails WORD..: an example run with these words ends with status 2 and says why on standard error.
