@@ -1,26 +1,32 @@
 /* Traffic-signal timing by the annex of Ordinance RD-02-21-2: judge a plan, work out a plan, and ask for the annex's figures.
  *
- * Link with target/staticlib/libgivendra.a (made by `rt staticlib givendra`), on x86-64 Linux. Nothing is allocated and nothing is kept
- * between calls. A function reads the bytes that it is lent and writes only into givendra_work_out's buffer. Files and lists may hold
- * anything; what is lent must be readable for its whole length, the buffer writable too, and a pointer is not NULL, even with the length 0.
- * The buffer does not overlap the junction file, and nothing else writes lent memory during a call.
+ * For x86-64 Linux. `rt staticlib givendra` makes the archive target/staticlib/libgivendra.a; `tools/install PREFIX` installs header, archive and
+ * shared library, so that `pkg-config --cflags --libs givendra` says how to compile and link.
+ *
+ * Nothing is allocated, and nothing is kept between calls: any number of threads may call at once. A call takes less than GIVENDRA_STACK bytes
+ * of stack. A function reads the bytes that it is lent and writes only into givendra_work_out's buffer. Files and lists may hold anything. What
+ * is lent must be readable for its whole length, the buffer writable too; a pointer may be NULL where its length is 0. Files and the buffer
+ * may stand at any address; a list stands at an even one, as its struct asks. The buffer does not overlap the junction file, and nothing else
+ * writes lent memory during a call.
  *
  * Every answer but givendra_release's has a refusal's number and its place. Number 0: nothing is refused, and the place is 0. Any other
- * number: the place says where, and every other member is 0.
+ * number: every other member is 0, givendra_refusal_text (below) says what is wrong, and the place says where. Unless a function says another
+ * place, it is:
  *
- *   The junction file's questions, place a byte's offset in the file unless said:
- *    1  longer than 16,384 bytes (place 0)        6  more than 16 streams, 64 zones or 128 counts
- *    2  a field does not fit                      7  a stream that does not exist or does not suit
- *    3  a tag that is not known or in its order   8  no heading, no car, or the phases used are not exactly 1 to some number, 2 or
- *                                                    more (place: the file's length)
- *    4  a field's length is wrong                 9  a car has no usable count (place: the stream)
- *    5  a number is out of range
- *   The plan file's questions, place an offset in the plan file:
- *   11  a field does not fit   12  not the field that is due   13  a number is out of range
- *   Its rules: 15  needed green (place: the stream)   16  capacity (place: the stream)   17  a conflict zone (place: the zone, from 1)
- *   Working out, place 0:
- *   21  the phases' flow ratios, each rounded up, sum to 1 or more   22  no length from the annex's optimum to 180 s works
- *   23  the buffer is too short
+ *   1 to 8    the offset in the junction file of the field's tag; but 0 for 1, and the file's length for 8
+ *   9         the stream
+ *   11 to 13  an offset in the plan file: where the field is due, or, of 12, where the file should end
+ *   15, 16    the stream
+ *   17        the conflict zone, from 1
+ *   21 to 23  0
+ *
+ * A plan file is fields one after another, first the cycle, then a green for each stream of the junction, in the order of the streams. Numbers
+ * of two bytes have the high byte first:
+ *
+ *   0x11 0x00 0x02, the cycle in s (two bytes)
+ *   0x12 0x00 0x05, the stream (one byte), where in the cycle its green starts and how long it lasts, in s (two bytes each)
+ *
+ * So the field of stream n, from 1, begins at GIVENDRA_PLAN_LENGTH(n - 1); givendra_green (below) reads it.
  */
 #ifndef GIVENDRA_H
 #define GIVENDRA_H
@@ -32,10 +38,13 @@
 extern "C" {
 #endif
 
-/* The release of this header, raised by every release that changes a struct or what a function takes. Header and archive belong together
- * where givendra_release() answers the same number. */
+/* The release of this header, raised by every release that changes a struct or what a function takes. Header and library belong together
+ * where givendra_release() == GIVENDRA_RELEASE: a program looks once, before any other call. */
 #define GIVENDRA_RELEASE 1
 uint32_t givendra_release(void);
+
+/* More bytes of stack than any call takes. */
+#define GIVENDRA_STACK 32768
 
 struct givendra_judge_answer {
     size_t place;
@@ -109,5 +118,54 @@ struct givendra_figure givendra_newest_count(const struct givendra_count_record 
 #ifdef __cplusplus
 }
 #endif
+
+/* What follows is compiled with the caller's code, and no part of the library. */
+
+/* A refusal in words. */
+static inline const char *givendra_refusal_text(unsigned number)
+{
+    switch (number) {
+    case 0: return "nothing is refused";
+    case 1: return "the junction file is longer than 16,384 bytes";
+    case 2: return "a field of the junction file does not fit";
+    case 3: return "a tag of the junction file is not known or not in its order";
+    case 4: return "the length of a field of the junction file is wrong";
+    case 5: return "a number of the junction file is out of range";
+    case 6: return "more than 16 streams, 64 conflict zones or 128 counts";
+    case 7: return "a stream does not exist or does not suit";
+    case 8: return "no heading, no car, or the phases used are not exactly 1 to some number, 2 or more";
+    case 9: return "the stream has no usable count";
+    case 11: return "a field of the plan file does not fit";
+    case 12: return "not the field of the plan file that is due, or bytes after the last";
+    case 13: return "a cycle, or a green's start or length, is out of range";
+    case 15: return "the stream has less than its needed green";
+    case 16: return "the car stream's capacity is below its flow";
+    case 17: return "an intergreen time at the conflict zone is not kept";
+    case 21: return "the phases' flow ratios, each rounded up, sum to 1 or more";
+    case 22: return "no cycle length from the annex's optimum to 180 s works";
+    case 23: return "the buffer is too short";
+    default: return "unknown refusal";
+    }
+}
+
+/* A stream's green in a plan file, in s. */
+struct givendra_green_times {
+    unsigned start;
+    unsigned length;
+};
+
+/* Reads the green of a stream, from 1, out of a plan file; both numbers are 0 where the file has none for it. */
+static inline struct givendra_green_times givendra_green(const uint8_t *plan, size_t plan_length, size_t stream)
+{
+    struct givendra_green_times green = {0, 0};
+    if (1 <= stream && stream <= 16 && GIVENDRA_PLAN_LENGTH(stream) <= plan_length) {
+        const uint8_t *field = plan + GIVENDRA_PLAN_LENGTH(stream - 1);
+        if (field[0] == 0x12 && field[1] == 0 && field[2] == 5 && field[3] == stream) {
+            green.start = 256u * field[4] + field[5];
+            green.length = 256u * field[6] + field[7];
+        }
+    }
+    return green;
+}
 
 #endif

@@ -21,8 +21,14 @@ awk '/^pub struct/, /^}/; /^ *pub fn/, /;$/' givendra-sys/src/lib.rs | sed -E '
     s/^ *pub //
     s/;$//' | lines > "$work/givendra-sys"
 
+# The header's declarations of the library stand in its block extern "C". Outside it are functions that the caller compiles, and their structs: no
+# function that is only declared.
+awk '/^extern "C" \{$/, /^}$/' include/givendra.h > "$work/block"
+awk '/^extern "C" \{$/, /^}$/ { next } /^static inline [^;]*$/, /^}$/ { next } /^[^ #\/].*[(;]/ && !/^};$/' include/givendra.h > "$work/out"
+[ ! -s "$work/out" ] || { echo "declarations: the header declares outside its block extern \"C\":"; cat "$work/out"; failed=1; }
+
 # C has the type first; its struct givendra_judge_answer is Rust's JudgeAnswer.
-awk '/^struct [a-z_]* {$/, /^};/; /^[a-z].*\(/, /;$/' include/givendra.h | sed -E '
+awk '/^struct [a-z_]* {$/, /^};/; /^[a-z].*\(/, /;$/' "$work/block" | sed -E '
     s| */\*.*||
     s/^(struct \w+ \{)$/@\1/
     s/^\};$/}/

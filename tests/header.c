@@ -33,10 +33,11 @@ static struct file with_tram = {"with a tram", tram_bytes, sizeof tram_bytes};
 static struct file full = {"flow 1,925", full_bytes, sizeof full_bytes};
 static struct file busy = {"flow 1,826", busy_bytes, sizeof busy_bytes};
 
-/* Files that are refused, whatever else is asked: the empty one by 8 at its length; without its last byte the count does not fit, 2 at 48;
+/* Files that are refused, whatever else is asked: the empty one, also at NULL, by 8 at its length; without its last byte the count does not fit, 2 at 48;
  * without its count the car has none, 9 at stream 1. */
 static struct file refused[] = {
     {"no byte", whole_bytes, 0},
+    {"no byte at NULL", NULL, 0},
     {"the last byte cut off", whole_bytes, 57},
     {"no count", whole_bytes, 48},
 };
@@ -74,17 +75,22 @@ static void layout(void)
            offsetof(struct givendra_junction_answer, counts));
     printf("figure: size %zu place %zu refusal %zu value %zu\n", sizeof(struct givendra_figure), offsetof(struct givendra_figure, place),
            offsetof(struct givendra_figure, refusal), offsetof(struct givendra_figure, value));
-    printf("count_record: size %zu stream %zu count_day %zu file_day %zu flow %zu\n", sizeof(struct givendra_count_record),
-           offsetof(struct givendra_count_record, stream), offsetof(struct givendra_count_record, count_day),
-           offsetof(struct givendra_count_record, file_day), offsetof(struct givendra_count_record, flow));
+    struct after_a_byte {
+        uint8_t byte;
+        struct givendra_count_record record;
+    };
+    printf("count_record: size %zu alignment %zu stream %zu count_day %zu file_day %zu flow %zu\n", sizeof(struct givendra_count_record),
+           offsetof(struct after_a_byte, record), offsetof(struct givendra_count_record, stream),
+           offsetof(struct givendra_count_record, count_day), offsetof(struct givendra_count_record, file_day),
+           offsetof(struct givendra_count_record, flow));
 }
 
 /* ---- what is lent to be read */
 
-/* A copy in memory of just its length, where valgrind sees a byte that is read behind it. */
+/* A copy in memory of just its length, where valgrind sees a byte that is read behind it; NULL stays NULL. */
 static void *alone(const void *bytes, size_t length)
 {
-    return memcpy(malloc(length), bytes, length);
+    return bytes ? memcpy(malloc(length), bytes, length) : NULL;
 }
 
 static void lend(struct file *file)
@@ -170,13 +176,32 @@ static void judge(const char *what, struct file j, const uint8_t *bytes, size_t 
     free(lent);
 }
 
-/* The whole case's plan with another byte at a place. */
+/* Puts the whole case's plan there with another byte at a place. */
+static const uint8_t *with_byte(uint8_t changed[sizeof plan], size_t place, uint8_t byte)
+{
+    memcpy(changed, plan, sizeof plan);
+    changed[place] = byte;
+    return changed;
+}
+
 static void judge_changed(const char *what, size_t place, uint8_t byte)
 {
     uint8_t changed[sizeof plan];
-    memcpy(changed, plan, sizeof plan);
-    changed[place] = byte;
-    judge(what, whole, changed, sizeof changed);
+    judge(what, whole, with_byte(changed, place, byte), sizeof changed);
+}
+
+static void green(const char *what, const uint8_t *bytes, size_t length, size_t stream)
+{
+    void *lent = alone(bytes, length);
+    struct givendra_green_times a = givendra_green((const uint8_t *)lent, length, stream);
+    printf("green, %s, stream %zu: start %u length %u\n", what, stream, a.start, a.length);
+    free(lent);
+}
+
+static void green_changed(const char *what, size_t place, uint8_t byte)
+{
+    uint8_t changed[sizeof plan];
+    green(what, with_byte(changed, place, byte), sizeof changed, 2);
 }
 
 /* ---- the blocks of tests/header.txt */
@@ -281,6 +306,7 @@ static void counts(void)
     newest_count("day 65,535", any, 2, 255, 65535);
     /* none usable: an empty list, other streams, flows out of range; the last two streams are 1 where they are cut to 8 or to 32 bits */
     newest_count("an empty list", days, 0, 1, 9000);
+    newest_count("an empty list at NULL", NULL, 0, 1, 9000);
     newest_count("days", days, 4, 2, 9000);
     newest_count("flows out of range", others + 2, 3, 1, 9000);
     newest_count("days", days, 4, 257, 9000);
@@ -304,6 +330,8 @@ static void working_out(void)
     work_out(busy, 20);
     for (size_t i = 0; i < LENGTH(refused); i++)
         work_out(refused[i], 20);
+    struct givendra_plan_answer a = givendra_work_out(whole.bytes, whole.length, NULL, 0);
+    printf("work_out, the whole case, no buffer: refusal %u place %zu\n", a.refusal, a.place);
 }
 
 /* The plan, then one change at a time. Pedestrians a second earlier, before the last car has cleared the zone, and a second later, so that
@@ -321,8 +349,41 @@ static void judging(void)
     judge("six bytes of the plan", whole, plan, 6);
     judge("five bytes of the plan", whole, plan, 5);
     judge("no byte of a plan", whole, plan, 0);
+    judge("no byte of a plan at NULL", whole, NULL, 0);
     for (size_t i = 0; i < LENGTH(refused); i++)
         judge(refused[i].name, refused[i], plan, 6);
+}
+
+/* Both streams; streams that are not there, also where a number is cut to 8 or 32 bits; a plan cut off in the last field; no byte; a field 2
+ * with another tag, length or stream. The numbers are read high byte first. */
+static void greens(void)
+{
+    green("the plan", plan, sizeof plan, 1);
+    green("the plan", plan, sizeof plan, 2);
+    for (size_t i = 0; i < LENGTH(absent); i++)
+        green("the plan", plan, sizeof plan, absent[i]);
+    green("the plan", plan, sizeof plan, 16);
+    green("the plan", plan, sizeof plan, 17);
+    green("the plan", plan, sizeof plan, (size_t)-1);
+    green("the last byte cut off", plan, sizeof plan - 1, 1);
+    green("the last byte cut off", plan, sizeof plan - 1, 2);
+    green("no byte of a plan", plan, 0, 1);
+    green("no byte of a plan at NULL", NULL, 0, 1);
+    green_changed("tag 0x11", 13, 0x11);
+    green_changed("a body of 261 bytes", 14, 1);
+    green_changed("a body of 6 bytes", 15, 6);
+    green_changed("of stream 1", 16, 1);
+    green_changed("a start of 296", 17, 1);
+    green_changed("a length of 262", 19, 1);
+}
+
+/* Every number in use, those between them, and others. */
+static void texts(void)
+{
+    for (unsigned number = 0; number <= 24; number++)
+        printf("text %u: %s\n", number, givendra_refusal_text(number));
+    printf("text 256: %s\n", givendra_refusal_text(256));
+    printf("text 4294967295: %s\n", givendra_refusal_text(4294967295));
 }
 
 int main(void)
@@ -337,5 +398,7 @@ int main(void)
     counts();
     working_out();
     judging();
+    greens();
+    texts();
     return 0;
 }
