@@ -14,6 +14,7 @@ use Rattle.phase_greens.specs.Greens.{sharing, greenAt, startAt, givesGreens}
 use Rattle.junction_phases.specs.JunctionPhases.{phasesAt}
 use Rattle.junction_phases.specs.Meaning.{count-phases}
 use Rattle.junction_phases.specs.lemmas.Right.{phases-right}
+use Rattle.plan_file.specs.declared.Green.{Green}
 use Rattle.plan_file.specs.Plans.{greenOf, noGreen}
 use Rattle.plan_file.specs.WellFormed.{PlanRight, green-numbered}
 use Rattle.cycle_search.specs.Planning.{phaseGreen, planAt}
@@ -26,7 +27,9 @@ module _ (j : Junction) (taken : Taken j) (t : ℕ) where
   stream-green n w =
       let few = taken .fields .fewStreams in
       let there : n - 1 + 1 ≡ n = omega arith in
-      rw (green-numbered (planAt j t) n (omega arith), filled-at (λ i. phaseGreen (phasesAt j t) (sharing (phasesAt j t) t) (streamNumbered j (i + 1) .phase)) (replicate 16 noGreen) (j .held .streams) (n - 1) noGreen (omega arith) few, there)
+      let green : ℕ → Green = λ i. phaseGreen (phasesAt j t) (sharing (phasesAt j t) t) (streamNumbered j (i + 1) .phase) in
+      let filled = filled-at green (replicate 16 noGreen) (j .held .streams) (n - 1) noGreen (omega arith) few in
+      rw (green-numbered (planAt j t) n (omega arith), filled, there)
 
   module _ (p : givesGreens (phasesAt j t) t ≡ true) where
     -- which lies within the cycle

@@ -21,7 +21,8 @@ use Rattle.junction.specs.declared.Junction.{Junction}
 use Rattle.junction.specs.Layout.{streamOf, countOf, countInRange}
 use Rattle.junction_places.specs.Blank.{blank}
 use Rattle.junction_questions.specs.lemmas.Passed.{BodyPassed}
-use Rattle.junction_questions.specs.Questions.{inOrder, lengthRight, inRange, withinLimit, refers, countRefers, bodyVerdict, fieldVerdict, phaseUsed, phaseFollows, phasesRight, carAt, firstCar, lacksCount, firstLacking, countsVerdict, whole, wholeVerdict}
+use Rattle.junction_questions.specs.Questions.{inOrder, lengthRight, inRange, withinLimit, refers, countRefers, bodyVerdict, fieldVerdict}
+use Rattle.junction_questions.specs.Questions.{phaseUsed, phaseFollows, phasesRight, carAt, firstCar, lacksCount, firstLacking, countsVerdict, whole, wholeVerdict}
 use Rattle.junction_places.specs.Places.{streamAt, countAt}
 use Rattle.streams.specs.Kinds.{isCar}
 use Rattle.junction_places.specs.Ranks.{newestRank}

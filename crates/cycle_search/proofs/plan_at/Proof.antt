@@ -59,8 +59,10 @@ element-copy-out-slot-green c = omega (arith, place c)
 
 -- what stands there is its start and green
 slot : (c : tie.After-slot-green-arg Inv-loop μ-loop)
-    → getD (c .before .before .before .before .before .before .args .t3 .of) (getD (c .before .before .before .before .before .before .args .t1 .streams) (c .before .before .before .before .loop .i) noStream .phase - 1) noSlot
-    ≡ slotAt (phasesAt (c .before .before .before .before .before .before .args .t1) (c .before .before .before .before .before .before .args .t)) (sharing (phasesAt (c .before .before .before .before .before .before .args .t1) (c .before .before .before .before .before .before .args .t)) (c .before .before .before .before .before .before .args .t)) (streamNumbered (c .before .before .before .before .before .before .args .t1) (c .before .before .before .before .loop .i + 1) .phase - 1)
+    → let a = c .before .before .before .before .before .before .args in
+    let i = c .before .before .before .before .loop .i in
+    getD (a .t3 .of) (getD (a .t1 .streams) i noStream .phase - 1) noSlot
+    ≡ slotAt (phasesAt (a .t1) (a .t)) (sharing (phasesAt (a .t1) (a .t)) (a .t)) (streamNumbered (a .t1) (i + 1) .phase - 1)
 slot c =
     let s = c .before .before .before .before .before .before in
     let i = c .before .before .before .before .loop .i in

@@ -72,7 +72,8 @@ gives-greens-requires c κs = (
 
 -- whether the length gives greens, by its own phases
 gives : (c : tie.After-gives-greens Inv-loop μ-loop Inv-loop2 μ-loop2 Inv-loop3 μ-loop3 Inv-search μ-search)
-    → c .gives-greens .result ≡ givesGreens (phasesAt (c .before .before .before .before .before .before .before .args .t1) (c .before .before .before .before .before .search .t)) (c .before .before .before .before .before .search .t)
+    → let l = c .before .before .before .before .before in
+    c .gives-greens .result ≡ givesGreens (phasesAt (l .before .before .args .t1) (l .search .t)) (l .search .t)
 gives c = c .gives-greens .ensures ∙ ap (λ q. givesGreens q (c .before .before .before .before .before .search .t)) (c .before .before .before .at-cycle .ensures)
 
 search-again : tie.Need-search-again Inv-loop μ-loop Inv-loop2 μ-loop2 Inv-loop3 μ-loop3 Inv-search μ-search
@@ -227,7 +228,9 @@ element-copy-out-conflict c = omega (arith, c .before .loop3 .inv .2 .taken .fie
 
 -- the streams of the conflict of a turn
 conflict : (c : tie.In-loop3 Inv-loop μ-loop Inv-loop2 μ-loop2 Inv-loop3 μ-loop3 Inv-search μ-search)
-    → Ends (junction (c .before .before .before .before .before .before)) (getD (c .before .before .before .before .before .before .before .before .before .before .before .before .before .before .before .args .t3 .of) (c .before .loop3 .z) noConflict)
+    → let at = c .before .before .before .before .before .before in
+    let a = at .before .before .before .before .before .before .before .before .before .args in
+    Ends (junction at) (getD (a .t3 .of) (c .before .loop3 .z) noConflict)
 conflict c =
     let given = c .before .loop3 .inv .2 in
     conflict-ends _ (given .taken) (plan (c .before .before .before .before .before .before)) (c .before .loop3 .z) (given .conflicts) (c .loop3-test .taken)

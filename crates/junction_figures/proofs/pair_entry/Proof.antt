@@ -35,7 +35,15 @@ unfolding zoneEntry
 loop-again c =
     let l = c .before .before .before .before .loop in (
       omega arith,
-      simp (c .u16-larger .ensures, c .before .zone-entry .ensures, here (c .before .before), c .before .before .before .before .before .stream-numbered2 .ensures, c .before .before .before .before .before .before .stream-numbered .ensures, l .inv .1, largest-next),
+      simp (
+        c .u16-larger .ensures,
+        c .before .zone-entry .ensures,
+        here (c .before .before),
+        c .before .before .before .before .before .stream-numbered2 .ensures,
+        c .before .before .before .before .before .before .stream-numbered .ensures,
+        l .inv .1,
+        largest-next,
+      ),
     )
 
 returns : tie.Need-returns Inv-loop μ-loop

@@ -21,10 +21,12 @@ use Rattle.junction.specs.declared.Junction.{Junction}
 use Rattle.junction.specs.declared.Reading.{Reading}
 use Rattle.junction.specs.declared.Side.{Side}
 use Rattle.junction.specs.declared.Zone.{Zone}
-use Rattle.junction.specs.Layout.{radiusInRange, sharesInRange, carInRange, carOf, tramInRange, tramOf, pedestrianInRange, pedestrianOf, cyclistInRange, cyclistOf, streamInRange, kindOf, streamOf, zoneInRange, zoneOf, countInRange, countOf}
+use Rattle.junction.specs.Layout.{radiusInRange, sharesInRange, carInRange, carOf, tramInRange, tramOf, pedestrianInRange, pedestrianOf}
+use Rattle.junction.specs.Layout.{cyclistInRange, cyclistOf, streamInRange, kindOf, streamOf, zoneInRange, zoneOf, countInRange, countOf}
 use Rattle.junction_places.specs.Blank.{noStream, noZone, noCount, blank}
 use Rattle.junction_questions.specs.lemmas.Passed.{BodyPassed, field-passed}
-use Rattle.junction_questions.specs.Questions.{inRange, withinLimit, refers, zoneRefers, carRefers, namedBy, fieldVerdict, inPhase, firstInPhase, phaseUsed, phaseFollows, phasesRight, carAt, firstCar, lacksCount, firstLacking, countsVerdict, wholeVerdict}
+use Rattle.junction_questions.specs.Questions.{inRange, withinLimit, refers, zoneRefers, carRefers, namedBy, fieldVerdict}
+use Rattle.junction_questions.specs.Questions.{inPhase, firstInPhase, phaseUsed, phaseFollows, phasesRight, carAt, firstCar, lacksCount, firstLacking, countsVerdict, wholeVerdict}
 use Rattle.junction_places.specs.Places.{streamAt, countAt, zoneAt, streamNumbered, numbered-at, numbered}
 use Rattle.streams.specs.Kinds.{isCar}
 use Rattle.junction_places.specs.Ranks.{newestRank}

@@ -6,7 +6,23 @@ use Rattle.junction_questions.proofs.body_verdict.Tie as tie
 
 returns : tie.Need-returns
 unfolding bodyVerdict
-returns c = simp (c .ask5 .ensures, c .before .in-order .ensures, c .before .before .ask4 .ensures, c .before .before .before .length-right .ensures, c .before .before .before .before .ask3 .ensures, c .before .before .before .before .before .in-range .ensures, c .before .before .before .before .before .before .ask2 .ensures, c .before .before .before .before .before .before .before .within-limit .ensures, c .before .before .before .before .before .before .before .before .ask .ensures, c .before .before .before .before .before .before .before .before .before .refers .ensures)
+returns c =
+    let three = c .before .before in
+    let four = three .before .before in
+    let five = four .before .before in
+    let six = five .before .before in
+    simp (
+      c .ask5 .ensures,
+      c .before .in-order .ensures,
+      three .ask4 .ensures,
+      three .before .length-right .ensures,
+      four .ask3 .ensures,
+      four .before .in-range .ensures,
+      five .ask2 .ensures,
+      five .before .within-limit .ensures,
+      six .ask .ensures,
+      six .before .refers .ensures,
+    )
 
 pub body-verdict-spec : {M : Type 1} → statement M
 body-verdict-spec =

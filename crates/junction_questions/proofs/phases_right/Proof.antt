@@ -6,7 +6,17 @@ use Rattle.junction_questions.proofs.phases_right.Tie as tie
 
 returns : tie.Need-returns
 unfolding phasesRight phaseFollows phaseUsed
-returns c = simp (c .first-in-phase6 .ensures, c .before .first-in-phase5 .ensures, c .before .before .first-in-phase4 .ensures, c .before .before .before .first-in-phase3 .ensures, c .before .before .before .before .first-in-phase2 .ensures, c .before .before .before .before .before .first-in-phase .ensures)
+returns c =
+    let four = c .before .before in
+    let two = four .before .before in
+    simp (
+      c .first-in-phase6 .ensures,
+      c .before .first-in-phase5 .ensures,
+      four .first-in-phase4 .ensures,
+      four .before .first-in-phase3 .ensures,
+      two .first-in-phase2 .ensures,
+      two .before .first-in-phase .ensures,
+    )
 
 pub phases-right-spec : {M : Type 1} → statement M
 phases-right-spec =

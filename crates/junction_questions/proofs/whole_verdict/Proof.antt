@@ -7,7 +7,16 @@ use Rattle.junction_questions.proofs.whole_verdict.Tie as tie
 
 returns : tie.Need-returns
 unfolding wholeVerdict whole
-returns c = let j = c .before .before .before .before .before .before .args .j in simp (c .ask .ensures, c .before .counts-verdict .ensures, c .before .before .first-car .ensures, c .before .before .before .phases-right .ensures, phases-of-streams j, car-of-streams j)
+returns c =
+    let j = c .before .before .before .before .before .before .args .j in
+    simp (
+      c .ask .ensures,
+      c .before .counts-verdict .ensures,
+      c .before .before .first-car .ensures,
+      c .before .before .before .phases-right .ensures,
+      phases-of-streams j,
+      car-of-streams j,
+    )
 
 pub whole-verdict-spec : {M : Type 1} → statement M
 whole-verdict-spec =

@@ -13,7 +13,11 @@ returns c = let e = c .before .before .verdict .ensures in e ∙ sym (first-refu
 
 returns-2 : tie.Need-returns-2
 unfolding planJudgement
-returns-2 c = let e = c .before .before .before .before .verdict .ensures in let a = c .before .before .before .before .before .before .args in simp (c .verdict2 .ensures, c .before .plan-of .ensures) (sym (first-passed (planVerdict (a .plan .now) (a .j .held .streams)) _ (ap isRefused (sym e) ∙ sym (c .before .before .before .refused .ensures) ∙ c .before .before .if1 .left)))
+returns-2 c =
+    let e = c .before .before .before .before .verdict .ensures in
+    let a = c .before .before .before .before .before .before .args in
+    let t = ap isRefused (sym e) ∙ sym (c .before .before .before .refused .ensures) ∙ c .before .before .if1 .left in
+    simp (c .verdict2 .ensures, c .before .plan-of .ensures) (sym (first-passed (planVerdict (a .plan .now) (a .j .held .streams)) _ t))
 
 pub judge-plan-spec : {M : Type 1} → statement M
 judge-plan-spec =
