@@ -6,6 +6,7 @@ use mathlib.Core.Path.{_≡_}
 use lib.ListN.{replicate}
 use Rattle.laws.specs.Filled.{filled-at}
 use Rattle.laws.specs.Ranges.{Between}
+use Rattle.limits.specs.Limits.{mostStreams, mostSeconds}
 use Rattle.junction.specs.declared.Junction.{Junction}
 use Rattle.junction_places.specs.Places.{streamNumbered}
 use Rattle.junction_file.specs.Taken.{Taken}
@@ -28,7 +29,7 @@ module _ (j : Junction) (taken : Taken j) (t : ℕ) where
       let few = taken .fields .fewStreams in
       let there : n - 1 + 1 ≡ n = omega arith in
       let green : ℕ → Green = λ i. phaseGreen (phasesAt j t) (sharing (phasesAt j t) t) (streamNumbered j (i + 1) .phase) in
-      let filled = filled-at green (replicate 16 noGreen) (j .held .streams) (n - 1) noGreen (omega arith) few in
+      let filled = filled-at green (replicate mostStreams noGreen) (j .held .streams) (n - 1) noGreen (omega arith) few in
       rw (green-numbered (planAt j t) n (omega arith), filled, there)
 
   module _ (p : givesGreens (phasesAt j t) t ≡ true) where
@@ -43,7 +44,7 @@ module _ (j : Junction) (taken : Taken j) (t : ℕ) where
         (green-some (phasesAt j t) (phases-right j taken t) t p _ low, omega (arith, start-within (phasesAt j t) (phases-right j taken t) t p (streamNumbered j n .phase - 1) low))
 
     -- so the plan's numbers are in range, as a plan file's have to be
-    pub plan-in-range : Between 1 180 t → PlanRight (planAt j t) (j .held .streams)
+    pub plan-in-range : Between 1 mostSeconds t → PlanRight (planAt j t) (j .held .streams)
     plan-in-range range =
         record {
           cycle = unfold planAt in range;

@@ -21,7 +21,7 @@ use Rattle.plan_file.specs.declared.Plan.{Plan}
 use Rattle.plan_file.specs.Plans.{noGreen, noPlan}
 use Rattle.plan_rules.specs.Rules.{rulesVerdict}
 use Rattle.cycle_search.specs.declared.Found.{Found}
-use Rattle.limits.specs.Limits.{mostSeconds, noCycle}
+use Rattle.limits.specs.Limits.{mostSeconds, noCycle, mostStreams}
 
 -- Y of a junction
 unfoldable pub ratios : Junction → ℕ
@@ -43,7 +43,7 @@ unfoldable pub planAt : Junction → ℕ → Plan
 planAt j t =
     record {
       cycle = t;
-      greens = filled (λ i. phaseGreen (phasesAt j t) (sharing (phasesAt j t) t) (streamNumbered j (i + 1) .phase)) (replicate 16 noGreen) (j .held .streams);
+      greens = filled (λ i. phaseGreen (phasesAt j t) (sharing (phasesAt j t) t) (streamNumbered j (i + 1) .phase)) (replicate mostStreams noGreen) (j .held .streams);
     }
 
 -- what becomes of a length: it works, or the first of these that makes it fail: it is below L, a green is below 1, a stream lacks its need, a

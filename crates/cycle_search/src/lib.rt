@@ -2,6 +2,7 @@
 ghost use mathlib.Core.Bool.{true};
 ghost use mathlib.Core.Path.{_≡_};
 ghost use Prim.Native.Nat.{_≤_};
+ghost use Rattle.limits.specs.Limits.{mostSeconds, noCycle};
 ghost use Rattle.junction_file.specs.Taken.{Taken};
 ghost use Rattle.junction_tables.specs.Tables.{loadsOf, conflictsOf};
 ghost use Rattle.phase_greens.specs.Greens.{sharing, givesGreens};
@@ -58,7 +59,7 @@ fn plan_at(j: Junction, q: Phases, slots: Slots, t: u16) -> Plan
     requires phases { ⌜ q ≡ phasesAt j t ⌝ }
     requires slots { ⌜ slots ≡ slotsOf q (sharing q t) ⌝ }
     requires green { ⌜ givesGreens q t ≡ true ⌝ }
-    requires short { ⌜ t ≤ 180 ⌝ }
+    requires short { ⌜ t ≤ mostSeconds ⌝ }
     ensures { λ r. ⌜ r ≡ planAt j t ⌝ }
 {
     let streams = j.held.streams;
@@ -82,7 +83,7 @@ fn search(j: Junction, loads: Loads, conflicts: Conflicts, fixed: Phases, first:
     requires loads { ⌜ loads ≡ loadsOf j ⌝ }
     requires conflicts { ⌜ conflicts ≡ conflictsOf j ⌝ }
     requires phases { ⌜ fixed ≡ phasesAt j 0 ⌝ }
-    requires short { ⌜ first ≤ 181 ⌝ }
+    requires short { ⌜ first ≤ noCycle ⌝ }
     ensures { λ r. ⌜ r ≡ foundFrom j first ⌝ }
 {
     let streams = j.held.streams;

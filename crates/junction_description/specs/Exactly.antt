@@ -12,6 +12,7 @@ use borrow.Author.Tests.{eq-eqb, ne-eqb, lt-ltb, ltb-false, le-leb, leb-true, le
 use Rattle.laws.specs.Ranges.{Between}
 use Rattle.laws.specs.Search.{first-passes, first-fails}
 use Rattle.laws.specs.Tests.{by-test}
+use Rattle.limits.specs.Limits.{leastFlow, greatestFlow, mostStreams, mostZones, mostCounts}
 use Rattle.fields.specs.Bytes.{byteAt, numberAt, numberIn, fits, fits-within}
 use Rattle.fields.specs.Verdict.{isRefused}
 use Rattle.fields.specs.declared.Verdict.the-variants.{Passed}
@@ -70,7 +71,7 @@ module _ (s : List ℕ) (j : Junction) (streams zones counts : ℕ) (r : Holds s
     unfolding countOf
     count-flow = ap Count.flow (r .count i low)
 
-    flow-ranged : countInRange (body s (streams + zones + i + 1)) ≡ true → Between 1 9999 (countAt j i .flow)
+    flow-ranged : countInRange (body s (streams + zones + i + 1)) ≡ true → Between leastFlow greatestFlow (countAt j i .flow)
     unfolding countInRange numberIn
     flow-ranged ranged = let facts = simp and-eq-true-iff at ranged in rw count-flow (omega (arith, leb-true))
 
@@ -198,7 +199,7 @@ module _ (s : List ℕ) where
           ordered = in-order j 2 (h .some .0) (omega arith) last;
           long = at .long;
           ranged = at .ranged;
-          limited = lt-ltb (j .held .streams) 16 (omega (arith, h .streamsHeld));
+          limited = lt-ltb (j .held .streams) mostStreams (omega (arith, h .streamsHeld));
           referring = refl;
         } in
         let q : Passes s (suc i) (withStream (body s i) j) = rw (at .tagged) at (passing i j p fit (rw (at .tagged) b)) in
@@ -220,7 +221,7 @@ module _ (s : List ℕ) where
           ordered = in-order j 3 (h .some .0) (omega arith) last;
           long = eq-eqb _ _ (at .long);
           ranged = at .ranged;
-          limited = lt-ltb (j .held .zones) 64 (omega (arith, h .zonesHeld));
+          limited = lt-ltb (j .held .zones) mostZones (omega (arith, h .zonesHeld));
           referring = zone-refers s j n k 0 h (byteAt (body s i) 0) (byteAt (body s i) 1) .1 (at .a, at .b, at .below, at .apart);
         } in
         let q : Passes s (suc i) (withZone (body s i) j) = rw (at .tagged) at (passing i j p fit (rw (at .tagged) b)) in
@@ -242,7 +243,7 @@ module _ (s : List ℕ) where
           ordered = in-order j 4 (h .some .0) (omega arith) last;
           long = eq-eqb _ _ (at .long);
           ranged = at .ranged;
-          limited = lt-ltb (j .held .counts) 128 (omega (arith, h .countsHeld));
+          limited = lt-ltb (j .held .counts) mostCounts (omega (arith, h .countsHeld));
           referring = count-refers s j n z k h (byteAt (body s i) 0) .1 (at .existing, at .car);
         } in
         let q : Passes s (suc i) (withCount (body s i) j) = rw (at .tagged) at (passing i j p fit (rw (at .tagged) b)) in

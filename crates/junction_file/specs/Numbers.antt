@@ -7,6 +7,7 @@ use mathlib.Core.Path.{_≡_}
 use lib.Dec.{leb, ltb}
 use lib.ListN.{length}
 use Rattle.laws.specs.Tests.{by-test}
+use Rattle.limits.specs.Limits.{mostBytes}
 use Rattle.fields.specs.Bytes.{byteAt, fits, fieldEnd, bodyOf}
 use Rattle.fields.specs.lemmas.Numbers.{Numbered, ask-numbered, passed-number}
 use Rattle.fields.specs.Verdict.{numberOf, isRefused}
@@ -48,7 +49,7 @@ from-numbered (suc fuel) s at j =
 pub reading-numbered : (s : List ℕ) → Numbered (reading s .verdict)
 unfolding reading
 reading-numbered s =
-    by-test (leb (length s) 16384) (λ e. rw e (from-numbered (length s) s 0 blank)) (λ e. rw e (omega arith))
+    by-test (leb (length s) mostBytes) (λ e. rw e (from-numbered (length s) s 0 blank)) (λ e. rw e (omega arith))
 
 -- the answer's number is 0 exactly where the file is taken
 pub number-taken : (s : List ℕ) → (numberOf (reading s .verdict) ≡ 0) ↔ (reading s .verdict ≡ Passed)

@@ -4,7 +4,7 @@ ghost use mathlib.Core.Bool.{cond};
 ghost use mathlib.Core.Path.{_≡_};
 ghost use Prim.Native.Nat.{_≤_, min};
 ghost use lib.ListN.{getD};
-ghost use Rattle.limits.specs.Limits.{mostPhases};
+ghost use Rattle.limits.specs.Limits.{mostPhases, mostStreams};
 ghost use Rattle.laws.specs.ByNumber.{ByNumber};
 ghost use Rattle.laws.specs.Largest.{largestOf};
 ghost use Rattle.streams.specs.Kinds.{isCar};
@@ -51,7 +51,7 @@ pub fn has_pedestrian_or_tram(j: Junction) -> bool
 
 // The number of phases: that of the last one, at most six.
 fn phase_count(streams: [Stream; MOST_STREAMS], n: usize) -> usize
-    requires { ⌜ n ≤ 16 ⌝ }
+    requires { ⌜ n ≤ mostStreams ⌝ }
     ensures { λ r. ⌜ r ≡ min (largestOf (λ i. getD streams i noStream .phase) n) 6 ⌝ }
     ensures few { λ r. ⌜ r ≤ 6 ⌝ }
 {

@@ -10,6 +10,7 @@ use lib.Seq.{ext-getD}
 use borrow.Author.Tests.{le-ltb, ltb-true, ltb-false}
 use Rattle.laws.specs.Ranges.{Between}
 use Rattle.laws.specs.Tests.{by-test}
+use Rattle.limits.specs.Limits.{mostStreams}
 use Rattle.fields.specs.Bytes.{byteAt, numberAt}
 use Rattle.fields.specs.declared.Verdict.the-variants.{Passed}
 use Rattle.plan_file.specs.Plans.{greenAt, greenOf, planOf, planVerdict}
@@ -30,7 +31,7 @@ green-byte p i r k low e =
     let place : (k - 5) % 8 ≡ r = omega arith in
     rw (le-ltb k 5 (omega arith), stream, place)
 
-module _ (p : Plan) (streams : ℕ) (few : streams ≤ 16) (right : PlanRight p streams) where
+module _ (p : Plan) (streams : ℕ) (few : streams ≤ mostStreams) (right : PlanRight p streams) where
   byte-there : (k : ℕ) → k < planSize streams → byteAt (planFile p streams) k ≡ planByte p k
   unfolding byteAt
   byte-there k h = plan-byte p streams k h
@@ -97,7 +98,7 @@ module _ (p : Plan) (streams : ℕ) (few : streams ≤ 16) (right : PlanRight p 
       ∙ rw (start-there (n - 1) (omega arith), length-there (n - 1) (omega arith), same)
 
 -- the other way: what is read is written again
-module _ (s : List ℕ) (streams : ℕ) (few : streams ≤ 16) (w : WellFormed s streams) (bytes : (i : ℕ) → byteAt s i < 256) where
+module _ (s : List ℕ) (streams : ℕ) (few : streams ≤ mostStreams) (w : WellFormed s streams) (bytes : (i : ℕ) → byteAt s i < 256) where
   -- the bytes of a number are its quotient and its remainder
   high-byte : (i : ℕ) → numberAt s i / 256 ≡ byteAt s i
   unfolding numberAt

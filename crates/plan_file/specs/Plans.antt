@@ -12,7 +12,7 @@ use Rattle.fields.specs.declared.Verdict.{Verdict}
 use Rattle.fields.specs.declared.Verdict.the-variants.{Passed}
 use Rattle.plan_file.specs.declared.Green.{Green}
 use Rattle.plan_file.specs.declared.Plan.{Plan}
-use Rattle.limits.specs.Limits.{mostSeconds}
+use Rattle.limits.specs.Limits.{mostSeconds, mostStreams}
 
 -- the questions of the field that is due at a place: an end of file too early is question 12's, at the file length; then 11, 12 and 13 at
 -- the field
@@ -61,11 +61,11 @@ abbrev pub noGreen : Green
 noGreen = record { start = 0; length = 0 }
 
 abbrev pub noPlan : Plan
-noPlan = record { cycle = 0; greens = replicate 16 noGreen }
+noPlan = record { cycle = 0; greens = replicate mostStreams noGreen }
 
 unfoldable pub planOf : List ℕ → Plan
-planOf s = record { cycle = numberAt s 3; greens = filled (greenAt s) (replicate 16 noGreen) 16 }
+planOf s = record { cycle = numberAt s 3; greens = filled (greenAt s) (replicate mostStreams noGreen) mostStreams }
 
 -- the green of the stream with a number, from 1
 unfoldable pub greenOf : Plan → ℕ → Green
-greenOf p n = cond (eqb n 0) noGreen (cond (ltb 16 n) noGreen (getD (p .greens) (n - 1) noGreen))
+greenOf p n = cond (eqb n 0) noGreen (cond (ltb mostStreams n) noGreen (getD (p .greens) (n - 1) noGreen))

@@ -11,6 +11,7 @@ use borrow.Author.Tests.{le-leb, leb-true, lt-ltb, le-ltb, ltb-true, eq-eqb, ne-
 use Rattle.laws.specs.Filled.{filled-at}
 use Rattle.laws.specs.Ranges.{Between}
 use Rattle.laws.specs.Tests.{by-test, both-right}
+use Rattle.limits.specs.Limits.{mostSeconds, mostStreams}
 use Rattle.fields.specs.Bytes.{byteAt, numberAt, numberIn, fieldEnd}
 use Rattle.fields.specs.Verdict.{ask-passed, both-passed}
 use Rattle.fields.specs.declared.Verdict.the-variants.{Passed}
@@ -30,19 +31,19 @@ pub record GreenRight (s : List ℕ) (i : ℕ) : Type 0 where
 record CycleRight (s : List ℕ) : Type 0 where
   tag : byteAt s 0 ≡ 17
   fieldLength : numberAt s 1 ≡ 2
-  cycle : Between 1 180 (numberAt s 3)
+  cycle : Between 1 mostSeconds (numberAt s 3)
 
 -- field 11, then a field 12 for each stream in order, and nothing after the last
 pub record WellFormed (s : List ℕ) (streams : ℕ) : Type 0 where
   pub size : length s ≡ 5 + 8 * streams
   pub tag : byteAt s 0 ≡ 17
   pub fieldLength : numberAt s 1 ≡ 2
-  pub cycle : Between 1 180 (numberAt s 3)
+  pub cycle : Between 1 mostSeconds (numberAt s 3)
   pub greens : (i : ℕ) → i < streams → GreenRight s i
 
 -- the ranges of a plan's numbers
 pub record PlanRight (p : Plan) (streams : ℕ) : Type 0 where
-  pub cycle : Between 1 180 (p .cycle)
+  pub cycle : Between 1 mostSeconds (p .cycle)
   pub start : (n : ℕ) → Between 1 streams n → greenOf p n .start < p .cycle
   pub length : (n : ℕ) → Between 1 streams n → Between 1 (p .cycle) (greenOf p n .length)
 
@@ -152,19 +153,19 @@ unfolding planOf
 cycle-read s = refl
 
 -- the green of a stream that has a place, by its number and by the place
-pub green-numbered : (p : Plan) (n : ℕ) → Between 1 16 n → greenOf p n ≡ getD (p .greens) (n - 1) noGreen
+pub green-numbered : (p : Plan) (n : ℕ) → Between 1 mostStreams n → greenOf p n ≡ getD (p .greens) (n - 1) noGreen
 unfolding greenOf
-green-numbered p n h = rw (ne-eqb n 0 (omega arith), le-ltb 16 n (omega arith))
+green-numbered p n h = rw (ne-eqb n 0 (omega arith), le-ltb mostStreams n (omega arith))
 
-pub green-place : (p : Plan) (i : ℕ) → i < 16 → getD (p .greens) i noGreen ≡ greenOf p (i + 1)
+pub green-place : (p : Plan) (i : ℕ) → i < mostStreams → getD (p .greens) i noGreen ≡ greenOf p (i + 1)
 green-place p i h = let there : i + 1 - 1 ≡ i = omega arith in rw (green-numbered p (i + 1) (omega arith), there)
 
-pub green-read : (s : List ℕ) (streams : ℕ) → streams ≤ 16 → WellFormed s streams → (n : ℕ) → Between 1 streams n → greenOf (planOf s) n ≡ greenAt s (n - 1)
+pub green-read : (s : List ℕ) (streams : ℕ) → streams ≤ mostStreams → WellFormed s streams → (n : ℕ) → Between 1 streams n → greenOf (planOf s) n ≡ greenAt s (n - 1)
 unfolding planOf
 green-read s streams few w n h =
-    rw (green-numbered (planOf s) n (omega arith)) (filled-at (greenAt s) (replicate 16 noGreen) 16 (n - 1) noGreen (omega arith) (omega arith))
+    rw (green-numbered (planOf s) n (omega arith)) (filled-at (greenAt s) (replicate mostStreams noGreen) mostStreams (n - 1) noGreen (omega arith) (omega arith))
 
-pub plan-right : (s : List ℕ) (streams : ℕ) → planVerdict s streams ≡ Passed → streams ≤ 16 → PlanRight (planOf s) streams
+pub plan-right : (s : List ℕ) (streams : ℕ) → planVerdict s streams ≡ Passed → streams ≤ mostStreams → PlanRight (planOf s) streams
 unfolding greenAt
 plan-right s streams e few =
     let w = well-formed s streams .0 e in

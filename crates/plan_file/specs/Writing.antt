@@ -10,6 +10,7 @@ use lib.ListN.{length, take, drop, length-append, length-drop, List·getD-append
 use lib.Seq.{ext-getD, length-take-le, getD-take, getD-drop, getD-append-add}
 use borrow.Author.Tests.{leb-true}
 use Rattle.laws.specs.Tests.{by-test, both-left, both-right}
+use Rattle.limits.specs.Limits.{mostStreams}
 use Rattle.fields.specs.Bytes.{byteAt}
 use Rattle.plan_file.specs.Plans.{greenOf}
 use Rattle.plan_file.specs.declared.Green.{Green}
@@ -47,11 +48,11 @@ plan-long p streams = omega (arith, greens-long p streams 1)
 
 -- question 23: a buffer of so many bytes holds the file, of at most 16 streams
 unfoldable pub hasRoom : ℕ → ℕ → Bool
-hasRoom streams size = leb streams 16 && leb (planSize streams) size
+hasRoom streams size = leb streams mostStreams && leb (planSize streams) size
 
-pub has-room : (streams size : ℕ) → hasRoom streams size ≡ true → (streams ≤ 16) × (planSize streams ≤ size)
+pub has-room : (streams size : ℕ) → hasRoom streams size ≡ true → (streams ≤ mostStreams) × (planSize streams ≤ size)
 unfolding hasRoom
-has-room streams size e = (leb-true _ _ (both-left (leb streams 16) _ e), leb-true _ _ (both-right (leb streams 16) _ e))
+has-room streams size e = (leb-true _ _ (both-left (leb streams mostStreams) _ e), leb-true _ _ (both-right (leb streams mostStreams) _ e))
 
 -- the buffer with the file from its first byte on, and later bytes as they were; where there is no room, no byte is altered
 unfoldable pub written : Plan → ℕ → List ℕ → List ℕ

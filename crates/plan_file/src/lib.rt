@@ -3,6 +3,7 @@ ghost use mathlib.Core.Path.{_≡_};
 ghost use Prim.Native.Nat.{_/_, _%_, _≤_, _<_};
 ghost use lib.ListN.{length};
 ghost use Rattle.laws.specs.Filled.{filled};
+ghost use Rattle.limits.specs.Limits.{mostStreams};
 ghost use Rattle.plan_file.specs.Plans.{noGreen, noPlan, greenOf, greenAt, planOf, dueVerdict, cycleInRange, cycleExpected, cycleVerdict, greenExpected, greenInRange, greenVerdict, greensFrom, planVerdict};
 ghost use Rattle.plan_file.specs.Writing.{planSize, hasRoom, written};
 ghost use Rattle.plan_file.specs.lemmas.Bytes.{cycleByte, greenByte, planByte};
@@ -133,7 +134,7 @@ pub fn plan_of(file: &[u8]) -> Plan
 }
 
 fn green_at(file: &[u8], i: usize) -> Green
-    requires { ⌜ i ≤ 16 ⌝ }
+    requires { ⌜ i ≤ mostStreams ⌝ }
     ensures { λ r. ⌜ r ≡ greenAt (now (file .entry)) i ⌝ }
 {
     let at = 5 + 8 * i;
@@ -189,7 +190,7 @@ pub fn write(p: Plan, streams: usize, out: &mut [u8])
 
 fn write_bytes(p: Plan, size: usize, out: &mut [u8])
     requires room { ⌜ size ≤ length (now out) ⌝ }
-    requires few { ⌜ size ≤ 133 ⌝ }
+    requires few { ⌜ size ≤ planSize mostStreams ⌝ }
     ensures { λ _. ⌜ now (out .exit) ≡ filled (planByte p) (now (out .entry)) size ⌝ }
 {
     let mut k: usize = 0;
@@ -211,7 +212,7 @@ pub fn has_room(streams: usize, size: usize) -> bool
 
 // How long the plan file of so many streams is.
 pub fn plan_size(streams: usize) -> usize
-    requires { ⌜ streams ≤ 16 ⌝ }
+    requires { ⌜ streams ≤ mostStreams ⌝ }
     ensures { λ r. ⌜ r ≡ planSize streams ⌝ }
 {
     5 + 8 * streams
@@ -219,7 +220,7 @@ pub fn plan_size(streams: usize) -> usize
 
 // The byte at a place of the plan file: field 11 has 5 bytes, and each field 12 has 8.
 fn plan_byte(p: Plan, k: usize) -> u8
-    requires { ⌜ k < 133 ⌝ }
+    requires { ⌜ k < planSize mostStreams ⌝ }
     ensures { λ r. ⌜ r ≡ planByte p k ⌝ }
 {
     if k < 5 {
@@ -249,7 +250,7 @@ fn cycle_byte(cycle: u16, k: usize) -> u8
 }
 
 fn green_byte(g: Green, n: usize, k: usize) -> u8
-    requires stream { ⌜ n ≤ 16 ⌝ }
+    requires stream { ⌜ n ≤ mostStreams ⌝ }
     requires place { ⌜ k < 8 ⌝ }
     ensures { λ r. ⌜ r ≡ greenByte g n k ⌝ }
 {

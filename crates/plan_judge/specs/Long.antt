@@ -8,6 +8,7 @@ use lib.ListN.{length, take}
 use lib.Seq.{length-take-le, take-all}
 use borrow.Author.Tests.{leb-true, leb-false}
 use Rattle.laws.specs.Tests.{by-test}
+use Rattle.limits.specs.Limits.{mostBytes, mostStreams}
 use Rattle.fields.specs.Bytes.{byteAt}
 use Rattle.fields.specs.Verdict.{later-same}
 use Rattle.junction.specs.declared.Junction.{Junction}
@@ -26,12 +27,12 @@ enoughJunction = 16385
 junction-read : (s : List ℕ) → reading (take enoughJunction s) ≡ reading s
 unfolding enoughJunction reading
 junction-read s =
-    by-test (leb (length s) 16384)
-    (λ e. rw (take-all 16385 s (omega (arith, leb-true (length s) 16384 e))))
+    by-test (leb (length s) mostBytes)
+    (λ e. rw (take-all 16385 s (omega (arith, leb-true (length s) mostBytes e))))
     (λ e. rw (length-take-le 16385 s (leb-false _ _ e), e))
 
 -- a longer plan file is refused alike, since the size of a well-formed one is at most 133
-plan-read : (j : Junction) (plan : List ℕ) → ((i : ℕ) → byteAt plan i < 256) → j .held .streams ≤ 16
+plan-read : (j : Junction) (plan : List ℕ) → ((i : ℕ) → byteAt plan i < 256) → j .held .streams ≤ mostStreams
     → planJudgement j (take enough plan) ≡ planJudgement j plan
 unfolding planJudgement enough
 plan-read j plan bytes few =

@@ -1,6 +1,7 @@
 // The rules that a plan has to meet: needed green, capacity, and clear conflict zones (document 01, "Judging a plan").
 ghost use mathlib.Core.Path.{_≡_};
 ghost use Prim.Native.Nat.{_+_, _≤_, _<_};
+ghost use Rattle.limits.specs.Limits.{mostZones};
 ghost use Rattle.fields.specs.Verdict.{firstFailing};
 ghost use Rattle.fields.specs.declared.Verdict.the-variants.{Refused};
 ghost use Rattle.junction_file.specs.Taken.{Taken};
@@ -40,7 +41,7 @@ pub fn verdict(j: Junction, p: Plan) -> Verdict
 
 // A rule broken at a place, from 0.
 fn broken(rule: u8, place: usize) -> Verdict
-    requires { ⌜ place < 64 ⌝ }
+    requires { ⌜ place < mostZones ⌝ }
     ensures { λ r. ⌜ r ≡ Refused rule (place + 1) ⌝ }
 {
     Verdict::Refused {

@@ -10,6 +10,7 @@ use lib.Dec.{leb}
 use Rattle.laws.specs.Search.{first-fails}
 use Rattle.laws.specs.Sums.{sumOf}
 use Rattle.laws.specs.Tests.{by-test}
+use Rattle.limits.specs.Limits.{noCycle, mostSeconds}
 use Rattle.junction.specs.declared.Junction.{Junction}
 use Rattle.phase_lengths.specs.Phases.{lostTime}
 use Rattle.junction_phases.specs.JunctionPhases.{phasesAt}
@@ -21,7 +22,7 @@ module _ (j : Junction) where
   -- no length from T0 on that is shorter than the cycle works
   pub cycle-least : (t : ℕ) → firstTried j ≤ t → t < cycle j → works j t ≡ false
   unfolding cycle cycleFrom
-  cycle-least t = first-fails (works j) 181 (firstTried j) t
+  cycle-least t = first-fails (works j) noCycle (firstTried j) t
 
   -- how many of n lengths from T0 on are not below their lost time
   unfoldable pub lengthsFromLost : ℕ → ℕ
@@ -34,12 +35,12 @@ module _ (j : Junction) where
       let earlier = at-most-all f n in
       by-test (f n) (λ e. rw e (omega arith)) (λ e. rw e (omega arith))
 
-  pub tried-exact : cycle j < 181 → found j (firstTried j) .tried ≡ cycle j + 1 - firstTried j
+  pub tried-exact : cycle j < noCycle → found j (firstTried j) .tried ≡ cycle j + 1 - firstTried j
   unfolding found cycle
-  tried-exact low = let within : min (cycleFrom j (firstTried j)) 180 ≡ cycleFrom j (firstTried j) = min-eq-left (omega arith) in rw within
+  tried-exact low = let within : min (cycleFrom j (firstTried j)) mostSeconds ≡ cycleFrom j (firstTried j) = min-eq-left (omega arith) in rw within
 
   -- the tried count of a cycle that is found: at most C - T0 + 1, and at least the number of lengths from T0 to C that are not below their L
-  pub tried-bounds : cycle j < 181
+  pub tried-bounds : cycle j < noCycle
       → (found j (firstTried j) .tried ≤ cycle j + 1 - firstTried j) × (lengthsFromLost (cycle j + 1 - firstTried j) ≤ found j (firstTried j) .tried)
   tried-bounds low =
       let exact : found j (firstTried j) .tried ≡ cycle j + 1 - firstTried j = tried-exact low in

@@ -8,6 +8,7 @@ use mathlib.Core.Path.{_≡_, sym, _∙_, ap}
 use lib.ListN.{length, take}
 use Rattle.laws.specs.Ranges.{Between}
 use Rattle.laws.specs.Tests.{by-test}
+use Rattle.limits.specs.Limits.{mostSeconds}
 use Rattle.fields.specs.Verdict.{isRefused, not-refused}
 use Rattle.fields.specs.declared.Verdict.the-variants.{Passed}
 use Rattle.junction.specs.declared.Junction.{Junction}
@@ -29,7 +30,7 @@ use Rattle.planner.specs.lemmas.Cases.{first-tried-range, cycle-works, c
 use Rattle.planner.specs.WorkingOut.{junctionVerdict, junctionWorked, junctionBuffer, worked, buffer}
 
 -- a length whose greens are 1 or more works exactly where the judge refuses nothing of the file of its plan
-module _ (j : Junction) (t : Taken j) (c : ℕ) (range : Between 1 180 c) (p : givesGreens (phasesAt j c) c ≡ true) where
+module _ (j : Junction) (t : Taken j) (c : ℕ) (range : Between 1 mostSeconds c) (p : givesGreens (phasesAt j c) c ≡ true) where
   pub works-accepted : (works j c ≡ true) ↔ (planJudgement j (planFile (planAt j c) (j .held .streams)) ≡ Passed)
   works-accepted = rw (works-is j c, file-judged j t (planAt j c) (plan-in-range j t c p range), p) (
     λ e. not-refused _ (by-test (isRefused (rulesVerdict j (planAt j c))) (λ r. absurd (true≢false (sym e ∙ ap not r))) (λ r. r)),
@@ -37,7 +38,7 @@ module _ (j : Junction) (t : Taken j) (c : ℕ) (range : Between 1 180 c) (p : g
   )
 
 module _ (j : Junction) (t : Taken j) (lent : List ℕ) (e : junctionVerdict j (length lent) ≡ Passed) where
-  found-low : Between 1 180 (cycle j)
+  found-low : Between 1 mostSeconds (cycle j)
   found-low = omega (arith, cycle-found j (length lent) e, cycle-works j (cycle-found j (length lent) e) .0, first-tried-range j)
 
   -- the file that is written

@@ -8,6 +8,7 @@ use native.Mathlib.Omega.{arith}
 use borrow.Author.Needs.{needs}
 use borrow.Author.Tests.{not-true, not-false}
 use lib.ListN.{getD}
+use Rattle.limits.specs.Limits.{noCycle}
 use Rattle.junction.specs.declared.Junction.{Junction}
 use Rattle.junction_tables.specs.Tables.{noConflict}
 use Rattle.phase_greens.specs.Greens.{givesGreens}
@@ -49,7 +50,7 @@ abbrev Inv-search : tie.InvT-search
 Inv-search fixed first j loads conflicts streams zones t₀ tried₀ t tried = Given j loads conflicts fixed × Rest j first t tried
 
 abbrev μ-search : tie.MeasureT-search
-μ-search fixed first j loads conflicts streams zones t₀ tried₀ t tried = 181 - t
+μ-search fixed first j loads conflicts streams zones t₀ tried₀ t tried = noCycle - t
 
 search-holds : tie.Need-search-holds Inv-loop μ-loop Inv-loop2 μ-loop2 Inv-loop3 μ-loop3 Inv-search μ-search
 search-holds c = (

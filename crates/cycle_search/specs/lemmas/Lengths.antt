@@ -7,6 +7,7 @@ use lib.Dec.{leb, eqb}
 use borrow.Author.Tests.{leb-true, leb-false, lt-ltb, le-ltb}
 use Rattle.laws.specs.Ranges.{Between}
 use Rattle.laws.specs.Tests.{by-test, both-left, both-right}
+use Rattle.limits.specs.Limits.{mostSeconds}
 use Rattle.fields.specs.Verdict.{isRefused, not-refused, each-passed}
 use Rattle.fields.specs.declared.Verdict.{Verdict}
 use Rattle.fields.specs.declared.Verdict.the-variants.{Passed, Refused}
@@ -26,12 +27,12 @@ use Rattle.cycle_search.specs.Planning.{planAt, ruleOutcome, outcome, is
 
 -- a phase whose start and green are at most 180
 pub record SlotSmall (slot : Slot) : Type 0 where
-  pub start : slot .start ≤ 180
-  pub green : slot .green ≤ 180
+  pub start : slot .start ≤ mostSeconds
+  pub green : slot .green ≤ mostSeconds
 
 module _ (j : Junction) (taken : Taken j) (t : ℕ) where
   -- each stream's phase lies within a length that is possible
-  pub small : givesGreens (phasesAt j t) t ≡ true → t ≤ 180 → (n : ℕ) → Between 1 (j .held .streams) n
+  pub small : givesGreens (phasesAt j t) t ≡ true → t ≤ mostSeconds → (n : ℕ) → Between 1 (j .held .streams) n
       → SlotSmall (slotAt (phasesAt j t) (sharing (phasesAt j t) t) (streamNumbered j n .phase - 1))
   unfolding phasesAt
   small p short n w =

@@ -9,6 +9,7 @@ use borrow.Author.Tests.{lt-ltb, eqb-true, eqb-false}
 use Rattle.laws.specs.Ranges.{Between}
 use Rattle.laws.specs.Search.{first-found, first-next, first-out}
 use Rattle.laws.specs.Tests.{by-test}
+use Rattle.limits.specs.Limits.{noCycle, mostSeconds}
 use Rattle.junction.specs.declared.Junction.{Junction}
 use Rattle.phase_greens.specs.Greens.{givesGreens}
 use Rattle.junction_phases.specs.JunctionPhases.{phasesAt}
@@ -33,13 +34,13 @@ pub record Given (j : Junction) (l : Loads) (c : Conflicts) (q : Phases) : Type 
 
 -- before length t is tried
 pub record Rest (j : Junction) (first t tried : ℕ) : Type 0 where
-  pub high : t ≤ 181
+  pub high : t ≤ noCycle
   pub same : cycleFrom j t ≡ cycleFrom j first
   pub count : tried + first ≡ t
 
 -- while length t is tried, with its plan
 pub record Trying (j : Junction) (first t tried : ℕ) (p : Plan) : Type 0 where
-  pub high : t < 181
+  pub high : t < noCycle
   pub same : cycleFrom j t ≡ cycleFrom j first
   pub count : tried + first ≡ t + 1
   pub plan : p ≡ planAt j t
@@ -58,28 +59,28 @@ met-next rule n met e k w =
     (λ differ. let other = eqb-false k (n + 1) differ in met k (omega arith))
 
 module _ (j : Junction) (first : ℕ) where
-  pub rest-begins : first ≤ 181 → Rest j first first 0
+  pub rest-begins : first ≤ noCycle → Rest j first first 0
   rest-begins h = record { high = h; same = refl; count = omega arith }
 
   module _ (t : ℕ) where
-    next-same : t < 181 → works j t ≡ false → cycleFrom j (t + 1) ≡ cycleFrom j t
+    next-same : t < noCycle → works j t ≡ false → cycleFrom j (t + 1) ≡ cycleFrom j t
     unfolding cycleFrom
-    next-same h e = sym (first-next (works j) 181 t h e)
+    next-same h e = sym (first-next (works j) noCycle t h e)
 
-    pub rest-impossible : (tried : ℕ) → Rest j first t tried → t < 181 → givesGreens (phasesAt j t) t ≡ false → Rest j first (t + 1) (tried + 1)
+    pub rest-impossible : (tried : ℕ) → Rest j first t tried → t < noCycle → givesGreens (phasesAt j t) t ≡ false → Rest j first (t + 1) (tried + 1)
     rest-impossible tried r h e =
         record { high = omega arith; same = next-same h (fails-gives-greens j t e) ∙ r .same; count = omega (arith, r .count) }
 
-    pub rest-trying : (tried : ℕ) (p : Plan) → Rest j first t tried → t < 181 → givesGreens (phasesAt j t) t ≡ true → p ≡ planAt j t
+    pub rest-trying : (tried : ℕ) (p : Plan) → Rest j first t tried → t < noCycle → givesGreens (phasesAt j t) t ≡ true → p ≡ planAt j t
         → Trying j first t (tried + 1) p
     rest-trying tried p r h e is = record { high = h; same = r .same; count = omega (arith, r .count); plan = is; givesGreens = e }
 
-    pub rest-none : (tried : ℕ) → Rest j first t tried → 181 ≤ t → _≡_ {A = Found} (record { cycle = t; tried = tried; plan = noPlan }) (found j first)
+    pub rest-none : (tried : ℕ) → Rest j first t tried → noCycle ≤ t → _≡_ {A = Found} (record { cycle = t; tried = tried; plan = noPlan }) (found j first)
     unfolding found
     rest-none tried r h =
-        let last : t ≡ 181 = omega (arith, r .high) in
-        let is : cycleFrom j first ≡ t = sym (r .same) ∙ unfold cycleFrom in first-out (works j) 181 t h in
-        let n : tried ≡ 181 - first = omega (arith, r .count) in
+        let last : t ≡ noCycle = omega (arith, r .high) in
+        let is : cycleFrom j first ≡ t = sym (r .same) ∙ unfold cycleFrom in first-out (works j) noCycle t h in
+        let n : tried ≡ noCycle - first = omega (arith, r .count) in
         rw (is, last, n)
 
     module _ (tried : ℕ) (p : Plan) (r : Trying j first t tried p) where
@@ -100,7 +101,7 @@ module _ (j : Junction) (first : ℕ) where
       unfolding found
       trying-found needs capacities zones =
           let e = works-where j t (r .givesGreens) (rw (r .plan) at needs) (rw (r .plan) at capacities) (rw (r .plan) at zones) in
-          let is : cycleFrom j first ≡ t = sym (r .same) ∙ unfold cycleFrom in first-found (works j) 181 t (r .high) e in
+          let is : cycleFrom j first ≡ t = sym (r .same) ∙ unfold cycleFrom in first-found (works j) noCycle t (r .high) e in
           let n : tried ≡ t + 1 - first = omega (arith, r .count) in
-          let within : min t 180 ≡ t = min-eq-left (omega (arith, r .high)) in
-          rw (is, within, n, lt-ltb t 181 (r .high), r .plan)
+          let within : min t mostSeconds ≡ t = min-eq-left (omega (arith, r .high)) in
+          rw (is, within, n, lt-ltb t noCycle (r .high), r .plan)

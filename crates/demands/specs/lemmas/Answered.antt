@@ -8,6 +8,7 @@ use lib.Dec.{leb, ltb}
 use lib.ListN.{length}
 use Rattle.laws.specs.Search.{first-same}
 use Rattle.laws.specs.Tests.{by-test}
+use Rattle.limits.specs.Limits.{mostBytes}
 use Rattle.fields.specs.Bytes.{byteAt, numberAt, fieldEnd, bodyOf}
 use Rattle.fields.specs.Verdict.{isRefused, first-refused, first-passed, firstFailing, askEach}
 use Rattle.fields.specs.declared.Verdict.the-variants.{Passed}
@@ -56,7 +57,7 @@ fields-answer (suc fuel) s at j =
 -- the answer of every entry over files is that of its questions
 pub read-answer : (s : List ℕ) → reading s .verdict ≡ answer (junctionAsked s)
 unfolding reading junctionAsked answer
-read-answer s = by-test (leb (length s) 16384) (λ e. rw e (sym (fields-answer (length s) s 0 blank))) (λ e. rw e)
+read-answer s = by-test (leb (length s) mostBytes) (λ e. rw e (sym (fields-answer (length s) s 0 blank))) (λ e. rw e)
 
 due-answer : (s : List ℕ) (at : ℕ) (expected inRange : Bool) → answer (dueAsked s at expected inRange) ≡ dueVerdict s at expected inRange
 unfolding answer dueAsked dueVerdict

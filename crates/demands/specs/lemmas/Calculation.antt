@@ -10,6 +10,7 @@ use lib.ListN.{length, drop}
 use borrow.Author.Tests.{ltb-true, ltb-false, le-leb}
 use Rattle.laws.specs.Ranges.{Between}
 use Rattle.laws.specs.Tests.{by-test, both}
+use Rattle.limits.specs.Limits.{noCycle, mostSeconds}
 use Rattle.fields.specs.Verdict.{numberOf, isRefused, ask}
 use Rattle.fields.specs.declared.Verdict.the-variants.{Passed, Refused}
 use Rattle.junction_file.specs.Reading.{reading}
@@ -54,24 +55,24 @@ module _ where
 
 module _ (junction : List ℕ) (is : reading junction .verdict ≡ Passed) where
   -- a cycle is there exactly where some length is accepted
-  pub cycle-some : (cycle (reading junction .junction) < 181)
-      ↔ ((t : ℕ) × Between (firstTried (reading junction .junction)) 180 t × Accepted junction t)
+  pub cycle-some : (cycle (reading junction .junction) < noCycle)
+      ↔ ((t : ℕ) × Between (firstTried (reading junction .junction)) mostSeconds t × Accepted junction t)
   cycle-some =
       let j = reading junction .junction in
       let first = first-tried-range j in (
         λ low. let w = cycle-works j low in (cycle j, omega arith, works-file junction is (cycle j) (omega arith) .0 (w .1)),
-        λ some. by-test (ltb (cycle j) 181) (λ e. ltb-true _ _ e) (λ e.
-            let high : 181 ≤ cycle j = ltb-false _ _ e in
+        λ some. by-test (ltb (cycle j) noCycle) (λ e. ltb-true _ _ e) (λ e.
+            let high : noCycle ≤ cycle j = ltb-false _ _ e in
             let works = works-file junction is (some .0) (omega arith) .1 (some .2) in
             absurd (true≢false (sym works ∙ cycle-least j (some .0) (omega arith) (omega arith)))),
       )
 
-  pub cycle-none : (181 ≤ cycle (reading junction .junction))
-      ↔ ((t : ℕ) → firstTried (reading junction .junction) ≤ t → t ≤ 180 → Accepted junction t → ⊥)
+  pub cycle-none : (noCycle ≤ cycle (reading junction .junction))
+      ↔ ((t : ℕ) → firstTried (reading junction .junction) ≤ t → t ≤ mostSeconds → Accepted junction t → ⊥)
   cycle-none =
       let j = reading junction .junction in (
         λ high t low most a. let c = cycle-some .1 (t, omega arith, a) in omega arith,
-        λ none. by-test (ltb (cycle j) 181)
+        λ none. by-test (ltb (cycle j) noCycle)
             (λ e. let some = cycle-some .0 (ltb-true _ _ e) in absurd (none (some .0) (some .1 .0) (some .1 .1) (some .2)))
             (λ e. ltb-false _ _ e),
       )
@@ -82,7 +83,7 @@ module _ (junction : List ℕ) (is : reading junction .verdict ≡ Passed) where
   module _ (lent : List ℕ) where
     pub verdict-is : worked junction (length lent) .verdict
         ≡ ask (ltb (ratios (reading junction .junction)) 10000) 21 0
-        (ask (ltb (cycle (reading junction .junction)) 181) 22 0 (ask (hasRoom (reading junction .junction .held .streams) (length lent)) 23 0 Passed))
+        (ask (ltb (cycle (reading junction .junction)) noCycle) 22 0 (ask (hasRoom (reading junction .junction .held .streams) (length lent)) 23 0 Passed))
     unfolding junctionVerdict calculation
     verdict-is = file-verdict junction (length lent) ∙ rw is
 
@@ -114,8 +115,8 @@ module _ (junction : List ℕ) (is : reading junction .verdict ≡ Passed) where
     pub answered : worked junction (length lent) .verdict ≡ Passed → Result junction lent (worked junction (length lent))
     answered e =
         let j = reading junction .junction in
-        let three = ask-none (ltb (ratios j) 10000) (ltb (cycle j) 181) (hasRoom (j .held .streams) (length lent)) .0 (sym verdict-is ∙ e) in
-        let low : cycle j < 181 = ltb-true _ _ (three .1) in
+        let three = ask-none (ltb (ratios j) 10000) (ltb (cycle j) noCycle) (hasRoom (j .held .streams) (length lent)) .0 (sym verdict-is ∙ e) in
+        let low : cycle j < noCycle = ltb-true _ _ (three .1) in
         let passed : junctionVerdict j (length lent) ≡ Passed = unfold junctionVerdict calculation in (sym verdict-is ∙ e) in
         let told : ℕ → Worked =
         λ c. record {

@@ -9,6 +9,7 @@ use lib.ListN.{length}
 use borrow.Author.Tests.{leb-false, ltb-true}
 use Rattle.laws.specs.Ranges.{Between}
 use Rattle.laws.specs.Tests.{by-test}
+use Rattle.limits.specs.Limits.{noCycle, mostBytes}
 use Rattle.fields.specs.Bytes.{byteAt, fieldEnd, fits, bodyOf}
 use Rattle.fields.specs.Verdict.{isRefused, ask, firstRefusal, firstFailing, askEach}
 use Rattle.fields.specs.declared.Verdict.{Verdict}
@@ -89,7 +90,7 @@ module _ (s : List ℕ) where
 
   pub junction-told : Told (JunctionPlace (length s) (reading s .junction .held .streams)) (reading s .verdict)
   unfolding reading
-  junction-told = by-test (leb (length s) 16384) (λ e. rw e (from-told (length s) 0 blank)) (λ e. rw e long)
+  junction-told = by-test (leb (length s) mostBytes) (λ e. rw e (from-told (length s) 0 blank)) (λ e. rw e long)
 
 module _ (s : List ℕ) where
   due-told : (at : ℕ) (expects ranged : Bool) → Told (PlanPlace (length s)) (dueVerdict s at expects ranged)
@@ -136,5 +137,5 @@ work-told junction size =
     rw (file-verdict junction size)
     (first-told R (reading junction .verdict) _ (told-more _ R (λ n q. of-junction) (reading junction .verdict) (junction-told junction)) (λ e.
     ask-told R (ltb (ratios j) 10000) 21 0 _ (λ e. of-calculation ratios-sum) (λ e.
-    ask-told R (ltb (cycle j) 181) 22 0 _ (λ e. of-calculation no-cycle) (λ e.
+    ask-told R (ltb (cycle j) noCycle) 22 0 _ (λ e. of-calculation no-cycle) (λ e.
     ask-told R (hasRoom (j .held .streams) size) 23 0 Passed (λ e. of-calculation no-room) (λ e. tt)))))

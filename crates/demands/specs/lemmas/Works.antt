@@ -11,6 +11,7 @@ use borrow.Author.Tests.{ltb-true, ltb-false, leb-true, leb-false, le-leb}
 use Rattle.laws.specs.Ranges.{Between}
 use Rattle.laws.specs.Search.{firstBelow, first-passes, first-fails}
 use Rattle.laws.specs.Tests.{by-test, both, both-left, both-right}
+use Rattle.limits.specs.Limits.{mostSeconds}
 use Rattle.fields.specs.declared.Verdict.the-variants.{Passed}
 use Rattle.junction_file.specs.Reading.{reading}
 use Rattle.junction_file.specs.TakenFile.{taken}
@@ -45,7 +46,7 @@ module _ (junction : List ℕ) (is : reading junction .verdict ≡ Passed) where
   unfolding judgement
   judged-plan plan = rw is
 
-  pub works-file : (t : ℕ) → Between 1 180 t → (works (reading junction .junction) t ≡ true) ↔ Accepted junction t
+  pub works-file : (t : ℕ) → Between 1 mostSeconds t → (works (reading junction .junction) t ≡ true) ↔ Accepted junction t
   works-file t range =
       let j = reading junction .junction in (
         λ e. let p = works-only j t e .0 in

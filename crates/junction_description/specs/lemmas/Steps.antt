@@ -8,6 +8,7 @@ use lib.Dec.{leb, ltb}
 use lib.ListN.{length}
 use borrow.Author.Tests.{ltb-true, ltb-false, leb-true, le-leb}
 use Rattle.laws.specs.Tests.{by-test}
+use Rattle.limits.specs.Limits.{mostBytes}
 use Rattle.fields.specs.Bytes.{byteAt, bodyOf, field-long}
 use Rattle.fields.specs.Verdict.{isRefused, not-refused}
 use Rattle.fields.specs.declared.Verdict.the-variants.{Passed}
@@ -27,7 +28,7 @@ pub data Passes (s : List ℕ) : ℕ → Junction → Type 0 where
 
 -- all fields pass, and the whole
 pub record Read (s : List ℕ) : Type 0 where
-  pub size : length s ≤ 16384
+  pub size : length s ≤ mostBytes
   pub fields : ℕ
   pub passes : Passes s fields (reading s .junction)
   pub end : length s ≤ place s fields
@@ -64,14 +65,14 @@ module _ (s : List ℕ) where
   unfolding place
   all-passes = from-passes (length s) 0 blank begin (omega arith)
 
-  within-size : length s ≤ 16384 → reading s ≡ readFrom (length s) s 0 blank
+  within-size : length s ≤ mostBytes → reading s ≡ readFrom (length s) s 0 blank
   unfolding reading
   within-size h = rw (le-leb _ _ h)
 
-  size-passed : reading s .verdict ≡ Passed → length s ≤ 16384
+  size-passed : reading s .verdict ≡ Passed → length s ≤ mostBytes
   unfolding reading
   size-passed v =
-      by-test (leb (length s) 16384) (λ l. leb-true _ _ l) (λ l. absurd (true≢false (ap isRefused (rw l at v))))
+      by-test (leb (length s) mostBytes) (λ l. leb-true _ _ l) (λ l. absurd (true≢false (ap isRefused (rw l at v))))
 
   pub taken-read : reading s .verdict ≡ Passed → Read s
   unfolding Ends
@@ -81,7 +82,7 @@ module _ (s : List ℕ) where
       record { size = h; fields = end .0; passes = end .1; end = end .2; whole = end .3 }
 
   -- the other way
-  pub read-taken : length s ≤ 16384 → (n : ℕ) (j : Junction) → Passes s n j → length s ≤ place s n → wholeVerdict (length s) j ≡ Passed
+  pub read-taken : length s ≤ mostBytes → (n : ℕ) (j : Junction) → Passes s n j → length s ≤ place s n → wholeVerdict (length s) j ≡ Passed
       → reading s .verdict ≡ Passed
   unfolding atEnd
   read-taken h n j p high e = ap (λ r. r .verdict) (within-size h ∙ sym (rest-ends s (place s n) j (rest p) high)) ∙ e

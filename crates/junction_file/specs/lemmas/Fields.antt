@@ -13,6 +13,7 @@ use borrow.Author.Tests.{leb-true, leb-false, ltb-true, ltb-false, eqb-true, eqb
 use Rattle.laws.specs.Ranges.{Between, everyOf, every-at}
 use Rattle.laws.specs.Search.{firstBelow, first-range, first-passes, first-fails}
 use Rattle.laws.specs.Tests.{by-test, either}
+use Rattle.limits.specs.Limits.{mostBytes}
 use Rattle.fields.specs.Bytes.{byteAt, numberAt, byteIn, numberIn, fieldEnd}
 use Rattle.fields.specs.Verdict.{isRefused, ask-passed}
 use Rattle.fields.specs.declared.Verdict.the-variants.{Passed}
@@ -281,7 +282,7 @@ module _ (P : Junction → Type 0) (step : (tag : ℕ) (b : List ℕ) (j : Junct
       → P (reading s .junction) × (wholeVerdict (length s) (reading s .junction) ≡ Passed)
   unfolding reading
   by-fields p s =
-      by-test (leb (length s) 16384) (λ l. rw l (from-reached (length s) s 0 blank p))
+      by-test (leb (length s) mostBytes) (λ l. rw l (from-reached (length s) s 0 blank p))
       (λ l. rw l (λ v. absurd (true≢false (ap isRefused v))))
 
 module _ (j : Junction) where

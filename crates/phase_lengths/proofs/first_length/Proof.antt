@@ -3,15 +3,16 @@ use Prim.Native.Nat.{_-_, _≤_}
 use mathlib.Core.Path.{_≡_, refl, sym, _∙_}
 use native.Mathlib.Omega.{arith}
 use Rattle.laws.specs.Search.{firstBelow, first-found, first-next, first-out}
+use Rattle.limits.specs.Limits.{noCycle}
 use Rattle.phase_lengths.specs.Phases.{longEnough, firstLength}
 use Rattle.phase_lengths.proofs.first_length.Statement.{statement}
 use Rattle.phase_lengths.proofs.first_length.Tie as tie
 
 abbrev Inv-loop : tie.InvT-loop
-Inv-loop mixed ratios lost t₀ t = (t ≤ 181) × (firstBelow (longEnough mixed ratios lost) 181 t ≡ firstLength mixed ratios lost)
+Inv-loop mixed ratios lost t₀ t = (t ≤ noCycle) × (firstBelow (longEnough mixed ratios lost) noCycle t ≡ firstLength mixed ratios lost)
 
 abbrev μ-loop : tie.MeasureT-loop
-μ-loop mixed ratios lost t₀ t = 181 - t
+μ-loop mixed ratios lost t₀ t = noCycle - t
 
 loop-holds : tie.Need-loop-holds Inv-loop μ-loop
 unfolding firstLength

@@ -8,6 +8,7 @@ use mathlib.Core.Path.{_≡_, sym, _∙_}
 use lib.ListN.{length, take}
 use lib.Seq.{length-take-le, getD-take}
 use borrow.Author.Tests.{lt-leb, lt-ltb}
+use Rattle.limits.specs.Limits.{mostStreams}
 use Rattle.fields.specs.Bytes.{byteAt, numberAt, numberIn, fieldEnd}
 use Rattle.fields.specs.Verdict.{ask, later-same}
 use Rattle.fields.specs.declared.Verdict.the-variants.{Passed}
@@ -67,7 +68,7 @@ module _ (s t : List ℕ) (a : SameStart s t) where
   unfolding fieldEnd
   end-same at h = rw (number-same (at + 1) (omega arith))
 
-  greens-same : (streams i : ℕ) → i + streams ≤ 16 → greensFrom streams t (5 + 8 * i) (i + 1) ≡ greensFrom streams s (5 + 8 * i) (i + 1)
+  greens-same : (streams i : ℕ) → i + streams ≤ mostStreams → greensFrom streams t (5 + 8 * i) (i + 1) ≡ greensFrom streams s (5 + 8 * i) (i + 1)
   unfolding greensFrom greenVerdict enough
   greens-same zero i h =
       simp (lt-leb (length s) (5 + 8 * i) (omega (arith, a .longS)), lt-leb (length t) (5 + 8 * i) (omega (arith, a .longT)))
@@ -79,7 +80,7 @@ module _ (s t : List ℕ) (a : SameStart s t) where
       let eight : fieldEnd s (5 + 8 * i) ≡ 5 + 8 * (i + 1) = omega (arith, green-follows s (5 + 8 * i) (i + 1) (due-passed s (5 + 8 * i) _ _ .0 p .awaited)) in
       rw (end-same (5 + 8 * i) (omega arith), eight) (later (omega arith))))
 
-  plan-same : (streams : ℕ) → streams ≤ 16 → planVerdict t streams ≡ planVerdict s streams
+  plan-same : (streams : ℕ) → streams ≤ mostStreams → planVerdict t streams ≡ planVerdict s streams
   unfolding planVerdict cycleVerdict
   plan-same streams h =
       rw cycle-same
@@ -87,7 +88,7 @@ module _ (s t : List ℕ) (a : SameStart s t) where
       (λ p. rw (end-same 0 (omega arith), cycle-follows s (due-passed s 0 _ _ .0 p .awaited)) (greens-same streams 0 (omega arith))))
 
 -- more bytes change no answer
-pub long-file : (s : List ℕ) (streams : ℕ) → ((i : ℕ) → byteAt s i < 256) → streams ≤ 16 → enough ≤ length s
+pub long-file : (s : List ℕ) (streams : ℕ) → ((i : ℕ) → byteAt s i < 256) → streams ≤ mostStreams → enough ≤ length s
     → planVerdict (take enough s) streams ≡ planVerdict s streams
 unfolding byteAt
 long-file s streams bytes few long =

@@ -9,6 +9,7 @@ use borrow.Author.Tests.{ltb-true, lt-ltb, le-ltb}
 use Rattle.laws.specs.Ranges.{Between}
 use Rattle.laws.specs.Search.{first-range, first-passes}
 use Rattle.laws.specs.Tests.{by-test}
+use Rattle.limits.specs.Limits.{noCycle}
 use Rattle.fields.specs.Verdict.{ask-passed, isRefused, firstRefusal, first-refused, first-passed}
 use Rattle.fields.specs.declared.Verdict.the-variants.{Passed, Refused}
 use Rattle.junction.specs.declared.Junction.{Junction}
@@ -20,33 +21,33 @@ use Rattle.planner.specs.WorkingOut.{searched, refusal, calculation, jun
 use Rattle.planner.specs.declared.Worked.{Worked}
 
 -- T0 is from 1 to 181
-pub first-tried-range : (j : Junction) → Between 1 181 (firstTried j)
+pub first-tried-range : (j : Junction) → Between 1 noCycle (firstTried j)
 unfolding firstTried
 first-tried-range j = first-length-range _ _ _
 
-pub found-plan : (j : Junction) → cycle j < 181 → found j (firstTried j) .plan ≡ planAt j (cycle j)
+pub found-plan : (j : Junction) → cycle j < noCycle → found j (firstTried j) .plan ≡ planAt j (cycle j)
 unfolding found cycle
-found-plan j low = rw (lt-ltb (cycleFrom j (firstTried j)) 181 low)
+found-plan j low = rw (lt-ltb (cycleFrom j (firstTried j)) noCycle low)
 
 pub found-cycle : (j : Junction) → found j (firstTried j) .cycle ≡ cycle j
 unfolding found cycle
 found-cycle j = refl
 
 -- a cycle that is found lies from T0 to 180, and works
-pub cycle-works : (j : Junction) → cycle j < 181 → (firstTried j ≤ cycle j) × (works j (cycle j) ≡ true)
+pub cycle-works : (j : Junction) → cycle j < noCycle → (firstTried j ≤ cycle j) × (works j (cycle j) ≡ true)
 unfolding cycle cycleFrom
 cycle-works j low =
-    let first = first-tried-range j .1 in (first-range (works j) 181 (firstTried j) first .0, first-passes (works j) 181 (firstTried j) first low)
+    let first = first-tried-range j .1 in (first-range (works j) noCycle (firstTried j) first .0, first-passes (works j) noCycle (firstTried j) first low)
 
 module _ (j : Junction) (size : ℕ) where
-  pub cycle-found : junctionVerdict j size ≡ Passed → cycle j < 181
+  pub cycle-found : junctionVerdict j size ≡ Passed → cycle j < noCycle
   unfolding junctionVerdict calculation
-  cycle-found e = ltb-true _ _ (ask-passed (ltb (cycle j) 181) 22 0 _ (ask-passed (ltb (ratios j) 10000) 21 0 _ e .1) .0)
+  cycle-found e = ltb-true _ _ (ask-passed (ltb (cycle j) noCycle) 22 0 _ (ask-passed (ltb (ratios j) 10000) 21 0 _ e .1) .0)
 
   pub room-found : junctionVerdict j size ≡ Passed → hasRoom (j .held .streams) size ≡ true
   unfolding junctionVerdict calculation
   room-found e =
-      ask-passed (hasRoom (j .held .streams) size) 23 0 _ (ask-passed (ltb (cycle j) 181) 22 0 _ (ask-passed (ltb (ratios j) 10000) 21 0 _ e .1) .1) .0
+      ask-passed (hasRoom (j .held .streams) size) 23 0 _ (ask-passed (ltb (cycle j) noCycle) 22 0 _ (ask-passed (ltb (ratios j) 10000) 21 0 _ e .1) .1) .0
 
   -- where Y is 10,000 or more the verdict is 21, and else that of what is asked after it
   pub sum-refused : 10000 ≤ ratios j → junctionVerdict j size ≡ Refused 21 0
