@@ -3,10 +3,16 @@
 #include "givendra.h"
 #include <stdio.h>
 
+/* The status, where standard output took all that was printed. */
+static int written(int status)
+{
+    return fflush(stdout) || ferror(stdout) ? (perror("standard output"), 2) : status;
+}
+
 static int refused(unsigned number, size_t place)
 {
     printf("refused %u %zu: %s\n", number, place, givendra_refusal_text(number));
-    return 1;
+    return written(1);
 }
 
 /* The mode x leaves a file that is there as it is, so the junction file too. */
@@ -15,8 +21,8 @@ static int saved(const char *name, const uint8_t *plan, size_t size)
     FILE *file = fopen(name, "wbx");
     if (!file)
         return 0;
-    size_t written = fwrite(plan, 1, size, file);
-    return fclose(file) == 0 && written == size;
+    size_t put = fwrite(plan, 1, size, file);
+    return fclose(file) == 0 && put == size;
 }
 
 int main(int argc, char **argv)
@@ -48,5 +54,5 @@ int main(int argc, char **argv)
         return refused(judged.refusal, judged.place);
     printf("accepted\n");
     printf("intergreen from 1 to 2: %u s\n", givendra_intergreen(junction, length, 1, 2).value);
-    return 0;
+    return written(0);
 }

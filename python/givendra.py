@@ -5,11 +5,12 @@
     plan = givendra.work_out(junction)       # plan.file has the plan file's bytes
     givendra.judge(junction, plan.file)      # raises givendra.Refused where the plan is refused
 
-Files are bytes or anything that has bytes, streams are numbered from 1, times are in seconds, flows in E/h. A function that refuses raises
-Refused, with the number, the place and the text that include/givendra.h has for it; a number that the library cannot take raises OverflowError.
+Files are bytes or an object that lends them (bytearray, memoryview), streams are numbered from 1, times are in seconds, flows in E/h. A
+function that refuses raises Refused, with the number, the place and the text that include/givendra.h has for it; a number that the library
+cannot take raises OverflowError.
 
-The shared library is the file that the environment variable GIVENDRA_LIBRARY names, else the one that was installed with this module, else
-what the loader finds. Where it is of another release than this module, the import raises ImportError.
+The shared library is the file that the environment variable GIVENDRA_LIBRARY names, with its folder, else the one that was installed with
+this module, else what the loader finds. Where it is of another release than this module, the import raises ImportError.
 """
 import collections
 import ctypes
@@ -187,7 +188,7 @@ def judge(junction, plan):
 def work_out_into(junction, buffer):
     """Works out a plan for a junction file and writes its plan file into a buffer, as a bytearray, from the first byte: a Worked. A refusal
     alters no byte."""
-    lent = (ctypes.c_uint8 * len(buffer)).from_buffer(buffer)
+    lent = (ctypes.c_uint8 * memoryview(buffer).nbytes).from_buffer(buffer)
     answer = _answer("work_out", *_lent(junction), lent, len(lent))
     return Worked(answer.cycle, answer.tried, answer.size)
 

@@ -31,6 +31,7 @@ same "no prefix" 2 "$usage" tools/install
 same "an empty prefix" 2 "$usage" tools/install ''
 same "two prefixes" 2 "$usage" tools/install "$work/one" "$work/two"
 same "an option" 2 "$usage" tools/install --help
+same "a prefix that pkg-config does not take" 2 "install: PREFIX has a character that pkg-config does not take" tools/install "$work/a#b"
 
 same "the installed files" 0 "./bin/accepted
 ./bin/intergreens
@@ -75,10 +76,14 @@ for accepted in "$bin/accepted" "$root/tools/accepted"; do
     same "an empty plan by $accepted" 1 "refused 12 0" "$accepted" "$whole.junction" empty.plan
     same "no such plan by $accepted" 2 "none: No such file or directory" "$accepted" "$whole.junction" none
     same "a folder for a junction by $accepted" 2 ".: Is a directory" "$accepted" . "$whole.plan"
+    same "an option by $accepted" 2 "usage: accepted JUNCTION-FILE PLAN-FILE" "$accepted" "$whole.junction" -h
     same "one name by $accepted" 2 "usage: accepted JUNCTION-FILE PLAN-FILE" "$accepted" "$whole.junction"
 done
+ln -s "$bin/accepted" linked
+same "a plan by a link to accepted" 0 accepted ./linked "$whole.junction" "$whole.plan"
 cp "$bin/accepted" .
-same "accepted without judge" 2 "accepted: no program judge in . or ./../target/bin" ./accepted "$whole.junction" "$whole.plan"
+here=$(pwd -P)
+same "accepted without judge" 2 "accepted: no program judge in $here or $here/../target/bin" ./accepted "$whole.junction" "$whole.plan"
 [ $failed = 0 ] && echo "install: header, libraries and programs are installed, and a program outside is built by pkg-config"
 
 # The module finds the library that was installed with it, or, standing alone, what the loader finds.

@@ -64,6 +64,9 @@ no_room() {
     "$@"
 }
 
+# full WORD..: the same where standard output is full.
+full() { "$@" > /dev/full; }
+
 # saves WORD..: an example run by these words saves the plan in a new file alone, and says where it fails.
 saves() {
     rm -f "$work"/*.plan
@@ -73,6 +76,8 @@ saves() {
     cmp $whole.junction "$work/kept.junction" || { echo "library: $* writes over the junction file"; failed=1; }
     fails "$@" $whole.junction "$work/none/saved.plan"
     fails no_room "$@" $whole.junction "$work/long.plan"
+    fails full "$@" $whole.junction
+    fails full "$@" examples/refused_22.junction
     fails "$@" "$work/none"
     fails "$@" "$work"
     fails "$@"

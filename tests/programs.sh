@@ -12,6 +12,7 @@ same() {
     name=$1 out=$2 err=$3
     shift 3
     "$@" > "$work/out" 2> "$work/err"
+    [ $? = 0 ] || { echo "programs: $name: does not end with status 0"; failed=1; }
     printf "$out" | cmp -s - "$work/out" && printf "$err" | cmp -s - "$work/err" && return
     echo "programs: $name: wrote:"
     cat "$work/out" "$work/err"
@@ -71,7 +72,10 @@ cmp $junction "$work/junction" || failed=1
 same "plan of a refused junction" 'refused 22 0\n' '' target/bin/plan examples/refused_22.junction "$work/refused.plan"
 [ ! -e "$work/refused.plan" ] || { echo "programs: a refusal makes a plan file"; failed=1; }
 same "plan into no folder" '' "$work/none/plan: No such file or directory\n" target/bin/plan $junction "$work/none/plan"
-same "plan onto a full device" '' '/dev/full: File exists\n' target/bin/plan $junction /dev/full
+same "plan onto a device" '' '/dev/full: File exists\n' target/bin/plan $junction /dev/full
+same "plan where nothing can be written" "$work/full.plan: File too large\n" '' \
+    sh -c "(trap '' XFSZ; ulimit -f 0; exec target/bin/plan $junction $work/full.plan) 2>&1 | cat"
+[ ! -e "$work/full.plan" ] || { echo "programs: a plan file that is not whole is left"; failed=1; }
 
 # Bad input and output, of each program that reads a junction: by standard input, then by name.
 printf 'cycle 50\n1 0 35\n' > "$work/text"

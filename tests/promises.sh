@@ -2,8 +2,8 @@
 # promises.sh [FILE]: holds what the documents name in backticks to what is there. FILE, where it is given, stands for docs/PROMISES.md.
 # - Public functions: each `pub fn` of each crates/*/src/lib.rt stands in the first column of the table in the section "Public functions", and each
 #   name there is such a function. A row names `CRATE::FUNCTION`, and then further functions of that crate by their names alone; a name with no crate
-#   before it is of the crate with whose name it begins (`givendra_judge`). A crate that the section calls "Crate `NAME`" serves tests
-#   alone, and needs no row.
+#   before it is of the crate with whose name it begins (`givendra_judge`). A crate that the section calls "Crate `NAME`" has its
+#   functions told of there, and needs no row.
 # - Definitions and theorems: in `FILE.antt`: `NAME`, `NAME`, in `NAME` of `FILE.antt` and in `NAME` (`FILE.antt`) that file declares the name; in
 #   `NAME` (`CRATE`) that crate does. Any other name with a hyphen, or with a capital inside, is declared in the specs/ of some crate.
 # - Functions: `CRATE::FUNCTION` is one. In docs/PROMISES.md a name with an underscore is a function, a crate or a must-fail edit.

@@ -6,7 +6,7 @@ use Rattle.laws.specs.Ranges.{Between}
 use Rattle.laws.specs.Sums.{sumOf}
 use Rattle.dates.specs.declared.Date.{Date}
 
--- a leap year is divisible by 4, and not by 100 or else by 400
+-- a leap year is divisible by 4, and by 100 only where by 400
 unfoldable pub isLeapYear : ℕ → Bool
 isLeapYear year = eqb (year % 4) 0 && (not (eqb (year % 100) 0) || eqb (year % 400) 0)
 

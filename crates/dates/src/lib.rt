@@ -10,7 +10,7 @@ pub struct Date {
     pub day: u8,
 }
 
-// Whether a year is a leap year: divisible by 4, and not by 100 or else by 400.
+// Whether a year is a leap year: divisible by 4, and by 100 only where by 400.
 fn leap_year(year: u16) -> bool
     ensures { λ r. ⌜ r ≡ isLeapYear year ⌝ }
 {

@@ -24,7 +24,8 @@ use Rattle.demands.specs.Asked.{Question, question, each}
 use Rattle.limits.specs.Limits.{mostBytes, noCycle}
 
 -- a field of a junction file at a place, where the fields before it say j: 2 do three bytes and the body fit? 3 is the tag known and in its
--- order? 4 is the length right? 5 is each number in range? 6 is the count of its sort within limit? 7 do the streams that it names exist?
+-- order? 4 is the length right? 5 is each number in range? 6 is the count of its sort within limit? 7 do the streams that
+-- a zone names exist, a below b, in different phases, and is that of a count a car?
 unfoldable pub fieldAsked : List ℕ → ℕ → Junction → List Question
 fieldAsked s at j =
     question 2 at (fits s at)

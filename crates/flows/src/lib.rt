@@ -11,8 +11,8 @@ ghost use Rattle.flows.specs.Saturation.{straightFlow, turningFlow, base
 ghost use Rattle.flows.specs.Saturation.{turnDivisor, saturationFlow, flowRatio};
 ghost use Rattle.flows.specs.lemmas.Bounds.{Bounded};
 
-// The needed green of a stream in seconds, at a cycle in seconds: 8 for cars, 10 or 20 for trams, 6 for cyclists, and for
-// pedestrians the time to cross, at least 6. More than 34 trams an hour, which no file holds, count as 34.
+// The needed green of a stream in seconds, at a cycle in seconds: 8 for cars (38), 10 or 20 for trams (Table 3), 6 for cyclists (40'), and for
+// pedestrians the time to cross, at least 6 (38 to 40). More than 34 trams an hour, which no file holds, count as 34.
 pub fn need(s: Stream, cycle: u16) -> u32
     ensures { λ r. ⌜ r ≡ needAt cycle s ⌝ }
 {
@@ -167,7 +167,7 @@ fn conditions_percent(conditions: u8) -> u64
     if conditions == 2 { 100 } else { 85 }
 }
 
-// 400 / Kturn of formulas (25) and (26).
+// 400 / Kturn of formulas (24) to (26).
 fn turn_divisor(left: u8, right: u8) -> u64
     ensures { λ r. ⌜ Bounded (turnDivisor left right) (2 ^ 12) r ⌝ }
 {

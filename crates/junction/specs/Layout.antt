@@ -5,7 +5,7 @@ use mathlib.Core.Bool.{Bool, true, false, _&&_, _||_, cond}
 use mathlib.Core.List.{List}
 use lib.Dec.{leb, eqb}
 use lib.ListN.{length}
-use Rattle.limits.specs.Limits.{leastFlow, greatestFlow}
+use Rattle.limits.specs.Limits.{leastFlow, greatestFlow, mostPhases}
 use Rattle.fields.specs.Bytes.{byteAt, numberAt, byteIn, numberIn}
 use Rattle.streams.specs.declared.Kind.{Kind}
 use Rattle.streams.specs.declared.Kind.the-variants.{Car, Tram, Pedestrian, Cyclist}
@@ -39,7 +39,7 @@ sharesInRange b =
 
 unfoldable pub carInRange : List ℕ → Bool
 carInRange b =
-    byteIn b 1 1 6 && byteIn b 2 3 5 && byteIn b 3 0 1 && radiusInRange b && numberIn b 6 300 1500 && byteIn b 8 1 2 &&
+    byteIn b 1 1 mostPhases && byteIn b 2 3 5 && byteIn b 3 0 1 && radiusInRange b && numberIn b 6 300 1500 && byteIn b 8 1 2 &&
     byteIn b 9 0 20 && byteIn b 10 1 3 && sharesInRange b
 
 unfoldable pub carOf : List ℕ → Kind
@@ -59,7 +59,7 @@ carOf b =
 
 -- 2 tram, 6 bytes: running or from a stop (1; 0 or 1), length (2; 100 to 600), trams an hour (1; 1 to 34)
 unfoldable pub tramInRange : List ℕ → Bool
-tramInRange b = byteIn b 1 1 6 && byteIn b 2 0 1 && numberIn b 3 100 600 && byteIn b 5 1 34
+tramInRange b = byteIn b 1 1 mostPhases && byteIn b 2 0 1 && numberIn b 3 100 600 && byteIn b 5 1 34
 
 unfoldable pub tramOf : List ℕ → Kind
 tramOf b = Tram (record { stop = eqb (byteAt b 2) 1; length = numberAt b 3; hourly = byteAt b 5 })
@@ -68,7 +68,7 @@ tramOf b = Tram (record { stop = eqb (byteAt b 2) 1; length = numberAt b 3; hour
 -- (1; 0 or 1)
 unfoldable pub pedestrianInRange : List ℕ → Bool
 pedestrianInRange b =
-    byteIn b 1 1 6 && byteIn b 2 12 15 && numberIn b 3 10 600 && numberIn b 5 0 9999 && byteIn b 7 0 1 && byteIn b 8 0 1
+    byteIn b 1 1 mostPhases && byteIn b 2 12 15 && numberIn b 3 10 600 && numberIn b 5 0 9999 && byteIn b 7 0 1 && byteIn b 8 0 1
 
 unfoldable pub pedestrianOf : List ℕ → Kind
 pedestrianOf b =
@@ -83,7 +83,7 @@ pedestrianOf b =
 
 -- 4 cyclist, 3 bytes: reach counted (1; 0 or 1)
 unfoldable pub cyclistInRange : List ℕ → Bool
-cyclistInRange b = byteIn b 1 1 6 && byteIn b 2 0 1
+cyclistInRange b = byteIn b 1 1 mostPhases && byteIn b 2 0 1
 
 unfoldable pub cyclistOf : List ℕ → Kind
 cyclistOf b = Cyclist (record { counted = eqb (byteAt b 2) 1 })

@@ -8,7 +8,7 @@ use lib.ListN.{length}
 use Rattle.laws.specs.Ranges.{Between}
 use Rattle.fields.specs.Bytes.{byteAt, numberAt, fits, fieldEnd, bodyOf}
 use Rattle.junction.specs.Layout.{headingLength, zoneLength, countLength, designDay, streamLengthRight, streamInRange, zoneInRange, countInRange}
-use Rattle.limits.specs.Limits.{mostStreams, mostZones, mostCounts, mostBytes}
+use Rattle.limits.specs.Limits.{mostStreams, mostZones, mostCounts, mostBytes, mostPhases}
 
 -- where a field begins, by its number: the heading has number 0
 unfoldable pub place : List ℕ → ℕ → ℕ
@@ -79,7 +79,7 @@ pub record JunctionFile (s : List ℕ) (streams zones counts : ℕ) : Type 0 whe
   pub countFields : (n : ℕ) → Between 1 counts n → CountField s streams (streams + zones + n)
   -- phases 1 to some 2 or more all used, a car present, each car with a usable count
   pub last : ℕ
-  pub twoOrMore : Between 2 6 last
+  pub twoOrMore : Between 2 mostPhases last
   pub phases : (p : ℕ) → ((n : ℕ) × Between 1 streams n × (byteAt (body s n) 1 ≡ p)) ↔ Between 1 last p
   pub car : (n : ℕ) × Between 1 streams n × (byteAt (body s n) 0 ≡ 1)
   pub counted : (n : ℕ) → Between 1 streams n → byteAt (body s n) 0 ≡ 1 → (k : ℕ) × Between 1 counts k × UsableFor s n (streams + zones + k)

@@ -54,7 +54,7 @@ firstShared j n m = firstBelow (sharesAt j n m) (j .held .zones) 0
 unfoldable pub sharesZone : Junction → ℕ → ℕ → Bool
 sharesZone j n m = ltb (firstShared j n m) (j .held .zones)
 
--- two streams in different phases that share no zone: nothing is asked of their greens
+-- two streams in different phases that share no zone: their greens are not compared
 unfoldable pub unchecked : Junction → ℕ → ℕ → Bool
 unchecked j n m = not (eqb (streamNumbered j n .phase) (streamNumbered j m .phase)) && not (sharesZone j n m)
 

@@ -1,4 +1,4 @@
--- Which pairs of streams are not checked: exactly those in different phases of which no zone is.
+-- Which pairs of streams are not checked: exactly those in different phases that share no zone.
 use Prim.Native.Nat.{ℕ, _≤_, _<_, zero-le}
 use native.Mathlib.Omega.{arith}
 use mathlib.Core.Bool.{Bool, true, false, not, _||_, true≢false, false≢true}
@@ -13,15 +13,15 @@ use Rattle.junction_places.specs.Places.{streamNumbered, zoneAt}
 use Rattle.junction_figures.specs.Figures.{forward, backward, sharesAt, firstShared, sharesZone, unchecked}
 
 -- no zone is of the two streams, whichever of them is the zone's stream a
-abbrev pub NoZone : Junction → ℕ → ℕ → Type 0
-NoZone j n m = (i : ℕ) → i < j .held .zones → (forward n m (zoneAt j i) ≡ false) × (backward n m (zoneAt j i) ≡ false)
+abbrev pub ShareNoZone : Junction → ℕ → ℕ → Type 0
+ShareNoZone j n m = (i : ℕ) → i < j .held .zones → (forward n m (zoneAt j i) ≡ false) × (backward n m (zoneAt j i) ≡ false)
 
 neither : (a b : Bool) → (a || b) ≡ false → (a ≡ false) × (b ≡ false)
 neither true b e = absurd (true≢false e)
 neither false b e = (refl, e)
 
 module _ (j : Junction) (n m : ℕ) where
-  none-shared : (sharesZone j n m ≡ false) ↔ NoZone j n m
+  none-shared : (sharesZone j n m ≡ false) ↔ ShareNoZone j n m
   unfolding sharesZone firstShared sharesAt
   none-shared =
       let zones = j .held .zones in
@@ -37,7 +37,7 @@ module _ (j : Junction) (n m : ℕ) where
             (λ t. t),
       )
 
-  pub unchecked-exactly : (unchecked j n m ≡ true) ↔ ((streamNumbered j n .phase ≡ streamNumbered j m .phase → ⊥) × NoZone j n m)
+  pub unchecked-exactly : (unchecked j n m ≡ true) ↔ ((streamNumbered j n .phase ≡ streamNumbered j m .phase → ⊥) × ShareNoZone j n m)
   unfolding unchecked
   unchecked-exactly = (
     λ e. let apart = both-left (not (eqb (streamNumbered j n .phase) (streamNumbered j m .phase))) _ e in

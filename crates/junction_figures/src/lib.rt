@@ -62,7 +62,7 @@ pub fn shares_zone(j: Junction, n: usize, m: usize) -> bool
     first_shared(j, n, m) < j.held.zones
 }
 
-// Whether two streams are in different phases and share no zone, so that nothing is asked of their greens.
+// Whether two streams are in different phases and share no zone, so that their greens are not compared.
 pub fn unchecked(j: Junction, n: usize, m: usize) -> bool
     ensures { λ r. ⌜ r ≡ uncheckedPair j n m ⌝ }
 {

@@ -7,7 +7,7 @@ use mathlib.Core.Path.{_≡_}
 use lib.ListN.{length}
 use Rattle.laws.specs.Ranges.{Between}
 use Rattle.counts.specs.Newest.{rankFlow}
-use Rattle.limits.specs.Limits.{leastFlow, greatestFlow}
+use Rattle.limits.specs.Limits.{leastFlow, greatestFlow, mostPhases}
 use Rattle.streams.specs.declared.CarFigures.{CarFigures}
 use Rattle.streams.specs.declared.TramFigures.{TramFigures}
 use Rattle.streams.specs.declared.PedestrianFigures.{PedestrianFigures}
@@ -50,7 +50,7 @@ KindRanges (Pedestrian p) = PedestrianRanges p
 KindRanges (Cyclist y) = Unit {0}
 
 pub record StreamInRange (x : Stream) : Type 0 where
-  pub phase : Between 1 6 (x .phase)
+  pub phase : Between 1 mostPhases (x .phase)
   pub figures : KindRanges (x .kind)
 
 -- a zone's side: its stream exists, its distances are in range
@@ -93,7 +93,7 @@ pub record UsedPhase (j : Junction) (p : ℕ) : Type 0 where
 -- the phases used are exactly 1 to the last, which is 2 or more
 pub record PhasesRight (j : Junction) : Type 0 where
   pub last : ℕ
-  pub twoOrMore : Between 2 6 last
+  pub twoOrMore : Between 2 mostPhases last
   pub used : (p : ℕ) → UsedPhase j p ↔ Between 1 last p
 
 -- a car is there

@@ -9,6 +9,7 @@ use borrow.Author.Tests.{leb-false, lt-leb, eq-eqb}
 use Rattle.laws.specs.Largest.{largest-at-most}
 use Rattle.laws.specs.Ranges.{Between}
 use Rattle.laws.specs.Tests.{by-test, both, both-left, both-right}
+use Rattle.limits.specs.Limits.{mostPhases}
 use Rattle.streams.specs.Kinds.{isPedestrianOrTram}
 use Rattle.junction.specs.declared.Junction.{Junction}
 use Rattle.junction_places.specs.Places.{streamNumbered, numbered-at}
@@ -112,7 +113,7 @@ module _ (j : Junction) where
         (omega (arith, largest-least numbers (largestStream j numbers) .0 (le-refl _) (some .0) (some .1), some .2)) in
         rw most (min-eq-left (p .twoOrMore .1))
 
-    pub count-range : Between 2 6 (phaseCount j)
+    pub count-range : Between 2 mostPhases (phaseCount j)
     count-range = rw count-last (t .phases .twoOrMore)
 
     -- each stream is in a phase from 1 to their number, and each of those has a stream

@@ -52,8 +52,8 @@ pub fn has_pedestrian_or_tram(j: Junction) -> bool
 // The number of phases: that of the last one, at most six.
 fn phase_count(streams: [Stream; MOST_STREAMS], n: usize) -> usize
     requires { ⌜ n ≤ mostStreams ⌝ }
-    ensures { λ r. ⌜ r ≡ min (largestOf (λ i. getD streams i noStream .phase) n) 6 ⌝ }
-    ensures few { λ r. ⌜ r ≤ 6 ⌝ }
+    ensures { λ r. ⌜ r ≡ min (largestOf (λ i. getD streams i noStream .phase) n) mostPhases ⌝ }
+    ensures few { λ r. ⌜ r ≤ mostPhases ⌝ }
 {
     let mut last: u32 = 0;
     let mut i: usize = 0;
@@ -66,15 +66,15 @@ fn phase_count(streams: [Stream; MOST_STREAMS], n: usize) -> usize
 }
 
 fn at_most_six(n: u32) -> usize
-    ensures { λ r. ⌜ r ≡ min n 6 ⌝ }
-    ensures few { λ r. ⌜ r ≤ 6 ⌝ }
+    ensures { λ r. ⌜ r ≡ min n mostPhases ⌝ }
+    ensures few { λ r. ⌜ r ≤ mostPhases ⌝ }
 {
     if n <= 6 { n as usize } else { 6 }
 }
 
 // The phase after a phase; the first follows the last.
 fn following(f: u8, count: usize) -> u8
-    requires { ⌜ count ≤ 6 ⌝ }
+    requires { ⌜ count ≤ mostPhases ⌝ }
     ensures { λ r. ⌜ r ≡ phaseAfter count f ⌝ }
 {
     if (f as usize) < count {
@@ -127,7 +127,7 @@ fn needs_at(streams: [Stream; MOST_STREAMS], n: usize, t: u16) -> [u32; MOST_PHA
 
 // The entry from a stream of phase f to one of phase g, 0 where g is not the next phase.
 fn onward(f: u8, g: u8, count: usize, entry: u16) -> u32
-    requires { ⌜ count ≤ 6 ⌝ }
+    requires { ⌜ count ≤ mostPhases ⌝ }
     ensures { λ r. ⌜ r ≡ onwardBy count f g entry ⌝ }
 {
     only(g == following(f, count), entry as u32)
@@ -141,7 +141,7 @@ fn entries_of(
     count: usize,
 ) -> [u32; MOST_PHASES]
     requires zones { ⌜ ZonesPhases streams conflicts zones ⌝ }
-    requires count { ⌜ count ≤ 6 ⌝ }
+    requires count { ⌜ count ≤ mostPhases ⌝ }
     ensures { λ r. ⌜ ByNumber mostPhases (entriesBy streams conflicts count zones) r ⌝ }
 {
     let mut entries: [u32; MOST_PHASES] = [0; MOST_PHASES];

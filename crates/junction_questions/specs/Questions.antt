@@ -67,7 +67,7 @@ bodyVerdict tag b at held first second =
 abbrev pub namedBy : Junction → List ℕ → ℕ → Stream
 namedBy j b k = streamNumbered j (byteAt b k)
 
--- 2 to 7: do three bytes and the body fit? ..
+-- 2: do three bytes and the body fit? Then 3 to 7
 unfoldable pub fieldVerdict : List ℕ → ℕ → Junction → Verdict
 fieldVerdict s at j =
     ask (fits s at) 2 at

@@ -32,7 +32,7 @@ conflictOf j z =
 abbrev pub samePair : Zone → Zone → Bool
 samePair y z = eqb (y .a .stream) (z .a .stream) && eqb (y .b .stream) (z .b .stream)
 
--- the entries over the first k zones alone: with no zone looked at they are 0, and a zone of the pair widens them
+-- the entries over the first k zones alone: with no zone looked at they are 0, and a zone of the pair may raise them
 abbrev pub conflictBy : Junction → Zone → ℕ → Conflict
 conflictBy j z k =
     record {

@@ -1,4 +1,4 @@
--- The greens and intergreens of a possible length fill the cycle exactly: what is left over after rounding down is handed out whole.
+-- The greens and intergreens of a length that gives every phase a green fill the cycle exactly: what is left over after rounding down is handed out whole.
 use Prim.Native.Nat.{ℕ, _+_, _-_, _*_, _/_, _≤_, _<_, min, zero-le}
 use native.Mathlib.Nat.{ne-of-gt, zero-mul, zero-div}
 use native.Mathlib.Omega.{arith}
@@ -10,6 +10,7 @@ use Rattle.laws.specs.Search.{first-fails}
 use Rattle.laws.specs.Shares.{shares-within, shares-close, one-each}
 use Rattle.laws.specs.Sums.{sumOf, sum-next, sum-part, sum-same, sum-at-most, sum-plus}
 use Rattle.laws.specs.Tests.{by-test, both-left, both-right}
+use Rattle.limits.specs.Limits.{mostPhases}
 use Rattle.phase_lengths.specs.declared.Phase.{Phase}
 use Rattle.phase_lengths.specs.declared.Phases.{Phases}
 use Rattle.phase_lengths.specs.Phases.{noPhase, phase, lost, ratioSum, lostTime}
@@ -18,7 +19,7 @@ use Rattle.phase_greens.specs.Greens.{share, shares, sharing, carsBefore
 
 -- phases as a junction has them
 pub record Right (q : Phases) : Type 0 where
-  pub few : q .count ≤ 6
+  pub few : q .count ≤ mostPhases
   -- a phase without cars has no flow ratio
   pub plain : (i : ℕ) → phase q i .cars ≡ false → phase q i .ratio ≡ 0
   -- M is at least 1
@@ -59,20 +60,20 @@ module _ (q : Phases) (r : Right q) (t : ℕ) where
   unfolding share
   shared-is i = rw (ne-eqb (ratioSum q) 0 (ne-of-gt (r .some)))
 
-  shares-are : sumOf (shared q t) 6 ≡ sumOf (λ i. phase q i .ratio * (t - lostTime q) / ratioSum q) 6
-  shares-are = sum-same _ _ 6 (λ i low. shared-is i)
+  shares-are : sumOf (shared q t) mostPhases ≡ sumOf (λ i. phase q i .ratio * (t - lostTime q) / ratioSum q) mostPhases
+  shares-are = sum-same _ _ mostPhases (λ i low. shared-is i)
 
-  shared-within : sumOf (shared q t) 6 ≤ t - lostTime q
+  shared-within : sumOf (shared q t) mostPhases ≤ t - lostTime q
   unfolding ratioSum
-  shared-within = rw shares-are (shares-within (λ i. phase q i .ratio) 6 (t - lostTime q) (r .some))
+  shared-within = rw shares-are (shares-within (λ i. phase q i .ratio) mostPhases (t - lostTime q) (r .some))
 
   -- the seconds left over are fewer than the phases with cars
-  pub left-fewer : sharing q t .left < carsBefore q 6
+  pub left-fewer : sharing q t .left < carsBefore q mostPhases
   unfolding sharing shares ratioSum carsBefore
   left-fewer =
-      let close : t - lostTime q < sumOf (shared q t) 6 + carsBefore q 6 =
+      let close : t - lostTime q < sumOf (shared q t) mostPhases + carsBefore q mostPhases =
       rw shares-are
-      (shares-close (λ i. phase q i .ratio) 6 (t - lostTime q) (r .some) (counted q) (λ i low. without-cars i)) in
+      (shares-close (λ i. phase q i .ratio) mostPhases (t - lostTime q) (r .some) (counted q) (λ i low. without-cars i)) in
       omega (arith, shared-within)
 
   within-count : (i : ℕ) → phase q i .cars ≡ true → i < q .count
@@ -98,18 +99,18 @@ module _ (q : Phases) (r : Right q) (t : ℕ) where
         (λ e. let none : shared q t i ≡ 0 = shared-is i ∙ rw (r .plain i e, zero-mul, zero-div) in rw e (omega arith))
 
     -- greens and intergreens fill the cycle exactly (37)
-    pub fills : startAt q (sharing q t) 6 ≡ t
+    pub fills : startAt q (sharing q t) mostPhases ≡ t
     unfolding startAt sharing shares lostTime givesGreens
     fills =
         let more = given q (sharing q t .left) in
         let losts : ℕ → ℕ = λ i. lost (phase q i) in
-        let whole : startAt q (sharing q t) 6 ≡ sumOf (λ i. shared q t i + more i + losts i) 6 = sum-same _ _ 6 (λ i low. parts i) in
+        let whole : startAt q (sharing q t) mostPhases ≡ sumOf (λ i. shared q t i + more i + losts i) mostPhases = sum-same _ _ mostPhases (λ i low. parts i) in
         let enough : lostTime q ≤ t = leb-true _ _ (both-left (leb (lostTime q) t) _ p) in
         omega (
           arith,
-          sum-plus (λ i. shared q t i + more i) losts 6,
-          sum-plus (shared q t) more 6,
-          extras q (sharing q t .left) 6,
+          sum-plus (λ i. shared q t i + more i) losts mostPhases,
+          sum-plus (shared q t) more mostPhases,
+          extras q (sharing q t .left) mostPhases,
           left-fewer,
           shared-within,
         )
@@ -119,7 +120,7 @@ module _ (q : Phases) (r : Right q) (t : ℕ) where
         → startAt q (sharing q t) i + greenAt q (sharing q t) i + phase q i .intergreen ≤ t
     unfolding startAt
     start-within i h =
-        omega (arith, fills, sum-part (λ k. greenAt q (sharing q t) k + phase q k .intergreen) 6 i (omega arith))
+        omega (arith, fills, sum-part (λ k. greenAt q (sharing q t) k + phase q k .intergreen) mostPhases i (omega arith))
 
     lost-beside : (i : ℕ) → lost (phase q i) + counted q i ≤ greenAt q (sharing q t) i + phase q i .intergreen
     unfolding lost
@@ -133,9 +134,9 @@ module _ (q : Phases) (r : Right q) (t : ℕ) where
     above-lost =
         let losts : ℕ → ℕ = λ i. lost (phase q i) in
         let cars = counted q in
-        let least : sumOf (λ i. losts i + cars i) 6 ≤ startAt q (sharing q t) 6 = sum-at-most _ _ 6 (λ i low. lost-beside i) in
-        omega (arith, sum-plus losts cars 6, fills, left-fewer)
+        let least : sumOf (λ i. losts i + cars i) mostPhases ≤ startAt q (sharing q t) mostPhases = sum-at-most _ _ mostPhases (λ i low. lost-beside i) in
+        omega (arith, sum-plus losts cars mostPhases, fills, left-fewer)
 
-  -- so a length that is all lost is not possible
+  -- so a length that is all lost gives no phase with cars a green
   pub no-room : t ≡ lostTime q → givesGreens q t ≡ false
   no-room e = by-test (givesGreens q t) (λ p. absurd (omega (arith, above-lost p))) (λ p. p)

@@ -5,6 +5,7 @@ use mathlib.Core.Bool.{Bool, _&&_, cond}
 use lib.Dec.{leb, ltb, eqb}
 use Rattle.laws.specs.Search.{firstBelow}
 use Rattle.laws.specs.Sums.{sumOf}
+use Rattle.limits.specs.Limits.{mostPhases}
 use Rattle.phase_lengths.specs.Phases.{phase, ratioSum, lostTime}
 use Rattle.phase_lengths.specs.declared.Phase.{Phase}
 use Rattle.phase_lengths.specs.declared.Phases.{Phases}
@@ -16,7 +17,7 @@ share ratio seconds ratios = cond (eqb ratios 0) 0 (ratio * seconds / ratios)
 
 -- the sum of the phases' shares
 unfoldable pub shares : Phases → ℕ → ℕ → ℕ
-shares q seconds ratios = sumOf (λ i. share (phase q i .ratio) seconds ratios) 6
+shares q seconds ratios = sumOf (λ i. share (phase q i .ratio) seconds ratios) mostPhases
 
 -- for a length T: the seconds T - L, Y, and the seconds left over after rounding down
 unfoldable pub sharing : Phases → ℕ → Sharing

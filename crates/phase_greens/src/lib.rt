@@ -2,6 +2,7 @@
 ghost use mathlib.Core.Bool.{cond};
 ghost use mathlib.Core.Path.{_≡_};
 ghost use Prim.Native.Nat.{_-_, _≤_};
+ghost use Rattle.limits.specs.Limits.{mostPhases};
 ghost use Rattle.phase_greens.specs.Greens.{share as shareOf, shares as sharesIn, sharing as sharingOf, extra as extraOf, greenBy, givesGreens};
 ghost use Rattle.phase_greens.specs.Slots.{noSlot, slotsOf, firstBelowOneIn};
 use laws::above;
@@ -134,7 +135,7 @@ pub fn slots_of(q: Phases, s: Sharing) -> Slots
 
 // The first of the first places whose green is below 1; their number where none is.
 fn first_below_one(slots: Slots, n: usize) -> usize
-    requires { ⌜ n ≤ 6 ⌝ }
+    requires { ⌜ n ≤ mostPhases ⌝ }
     ensures { λ r. ⌜ r ≡ firstBelowOneIn slots n ⌝ }
 {
     let mut i: usize = 0;
@@ -150,7 +151,7 @@ fn first_below_one(slots: Slots, n: usize) -> usize
 
 // Whether a length is at least its lost time and gives every phase a green of 1 or more.
 pub fn gives_greens(q: Phases, slots: Slots, t: u16) -> bool
-    requires count { ⌜ q .count ≤ 6 ⌝ }
+    requires count { ⌜ q .count ≤ mostPhases ⌝ }
     requires slots { ⌜ slots ≡ slotsOf q (sharingOf q t) ⌝ }
     ensures { λ r. ⌜ r ≡ givesGreens q t ⌝ }
 {

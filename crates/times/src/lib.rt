@@ -18,7 +18,7 @@ pub enum Time {
     Root { q: u64, d: u64, less: u64 },
 }
 
-// The entry from stream i to stream j at one zone, with i's clearing and j's reaching distance in decimetres: the least whole number
+// The entry from stream i to stream j at one zone, (19), with i's clearing and j's reaching distance in decimetres: the least whole number
 // of seconds, not below 0, that is at least leaving minus reaching. It is 65,535 where no smaller number is enough, as for a
 // pedestrian whose speed is 0, which no file holds.
 pub fn entry(i: Stream, j: Stream, clearing: u16, reach: u16) -> u16

@@ -1,4 +1,4 @@
--- What a length gives: starts and greens within it where it is possible, and which of its rules makes it fail.
+-- What a length gives: starts and greens within it where every phase gets a green, and which of its rules makes it fail.
 use Prim.Native.Nat.{ℕ, _-_, _≤_}
 use native.Mathlib.Omega.{arith}
 use mathlib.Core.Bool.{true, false, _&&_, not, true≢false}
@@ -31,7 +31,7 @@ pub record SlotSmall (slot : Slot) : Type 0 where
   pub green : slot .green ≤ mostSeconds
 
 module _ (j : Junction) (taken : Taken j) (t : ℕ) where
-  -- each stream's phase lies within a length that is possible
+  -- each stream's phase lies within a length that gives every phase a green
   pub small : givesGreens (phasesAt j t) t ≡ true → t ≤ mostSeconds → (n : ℕ) → Between 1 (j .held .streams) n
       → SlotSmall (slotAt (phasesAt j t) (sharing (phasesAt j t) t) (streamNumbered j n .phase - 1))
   unfolding phasesAt
@@ -87,7 +87,7 @@ module _ (j : Junction) (t : ℕ) where
       let last = each-passed (capacityMet j (planAt j t)) 16 (j .held .streams) _ .0 later .1 in
       true≢false (sym (each-passed (zoneMet j (planAt j t)) 17 (j .held .zones) _ .0 last .0 n w) ∙ e))
 
-  -- .. and works where it is possible and none does
+  -- .. and works where it does and none is broken
   pub works-where : givesGreens (phasesAt j t) t ≡ true
       → ((n : ℕ) → Between 1 (j .held .streams) n → needMet j (planAt j t) n ≡ true)
       → ((n : ℕ) → Between 1 (j .held .streams) n → capacityMet j (planAt j t) n ≡ true)

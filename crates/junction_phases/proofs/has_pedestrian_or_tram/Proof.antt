@@ -1,4 +1,4 @@
--- `junction_phases::hasPedestrianOrTram` meets its contract: the invariant is that the most so far is 1 where a stream passed is slow.
+-- `junction_phases::has_pedestrian_or_tram` meets its contract: the most so far is 1 where a stream passed is a pedestrian or a tram.
 use Prim.Native.Nat.{_-_, _≤_}
 use mathlib.Core.Bool.{cond}
 use mathlib.Core.Path.{_≡_, sym, _∙_, ap}
