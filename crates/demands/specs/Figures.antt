@@ -14,12 +14,13 @@ use Rattle.laws.specs.Tests.{both-left, both-right}
 use Rattle.fields.specs.declared.Verdict.the-variants.{Passed}
 use Rattle.streams.specs.declared.CarFigures.{CarFigures}
 use Rattle.streams.specs.declared.CyclistFigures.{CyclistFigures}
+use Rattle.streams.specs.declared.IslandFigures.{IslandFigures}
 use Rattle.streams.specs.declared.PedestrianFigures.{PedestrianFigures}
 use Rattle.streams.specs.declared.TramFigures.{TramFigures}
-use Rattle.streams.specs.declared.Kind.the-variants.{Car, Tram, Pedestrian, Cyclist}
+use Rattle.streams.specs.declared.Kind.the-variants.{Car, Tram, Pedestrian, Cyclist, Island}
 use Rattle.flows.specs.Needs.{longestCycle, crossingSpeed, disturbance, kindNeed, needAt}
 use Rattle.flows.specs.Saturation.{saturationFlow}
-use Rattle.flows.specs.Meaning.{tram-once, tram-twice, pedestrian-least, numerator, denominator, saturation-greatest}
+use Rattle.flows.specs.Meaning.{tram-once, tram-twice, pedestrian-least, island-least, numerator, denominator, saturation-greatest}
 use Rattle.junction.specs.declared.Junction.{Junction}
 use Rattle.junction_questions.specs.Questions.{carRefers, countRefers}
 use Rattle.junction_places.specs.Places.{streamNumbered, numbered, numbered-at, zoneAt, exists}
@@ -56,6 +57,13 @@ pub record FiguresExact (junction : List ℕ) : Type 0 where
   pub pedestrian : (n cycle : ℕ) → exists (junctionOf junction) n ≡ true → cycleInRange cycle ≡ true
       → (p : PedestrianFigures) → streamNumbered (junctionOf junction) n .kind ≡ Pedestrian p → (k : ℕ)
       → (needAnswer junction n cycle .value ≤ k) ↔ ((6 ≤ k) × (p .crossing + disturbance p * crossingSpeed p ≤ k * crossingSpeed p))
+  -- over an island it is the least whole number that is at least 6 and at least both quotients, (wider carriageway + island + packet)/12 and
+  -- crossing/speed, each plus 3 if disturbed (39')
+  pub island : (n cycle : ℕ) → exists (junctionOf junction) n ≡ true → cycleInRange cycle ≡ true
+      → (i : IslandFigures) → streamNumbered (junctionOf junction) n .kind ≡ Island i → (k : ℕ)
+      → (needAnswer junction n cycle .value ≤ k)
+      ↔ ((6 ≤ k) × (i .wider + i .island + i .packet + disturbance (i .walk) * 12 ≤ k * 12)
+      × (i .walk .crossing + disturbance (i .walk) * crossingSpeed (i .walk) ≤ k * crossingSpeed (i .walk)))
   -- a saturation flow is the greatest whole number that is at most base × gradient × conditions × Kturn (28)
   pub saturation : (n : ℕ) → countRefers (junctionOf junction) n ≡ true → (c : CarFigures)
       → streamNumbered (junctionOf junction) n .kind ≡ Car c → (k : ℕ)
@@ -127,6 +135,13 @@ module _ (junction : List ℕ) (is : reading junction .verdict ≡ Passed) where
     unfolding kindNeed
     pedestrian-need p walker k = rw (need-is, walker) (pedestrian-least p k)
 
+    island-need : (i : IslandFigures) → streamNumbered (junctionOf junction) n .kind ≡ Island i → (k : ℕ)
+        → (needAnswer junction n cycle .value ≤ k)
+        ↔ ((6 ≤ k) × (i .wider + i .island + i .packet + disturbance (i .walk) * 12 ≤ k * 12)
+        × (i .walk .crossing + disturbance (i .walk) * crossingSpeed (i .walk) ≤ k * crossingSpeed (i .walk)))
+    unfolding kindNeed
+    island-need i walker k = rw (need-is, walker) (island-least i k)
+
 pub figures-exact : (junction : List ℕ) → reading junction .verdict ≡ Passed → FiguresExact junction
 figures-exact junction is =
     record {
@@ -135,6 +150,7 @@ figures-exact junction is =
       cyclist = λ n cycle one range. cyclist-need junction is n cycle one range;
       tram = λ n cycle one range. tram-need junction is n cycle one range;
       pedestrian = λ n cycle one range. pedestrian-need junction is n cycle one range;
+      island = λ n cycle one range. island-need junction is n cycle one range;
       saturation = saturation-exact junction is;
       flow = λ n one. unfold streamFlow in flow-counted junction is n one;
       ratio = ratio-exact junction is;

@@ -1,8 +1,8 @@
 -- The comparison of numbers for every kind of stream.
-use Prim.Native.Nat.{ℕ, _+_, _*_, _≤_, max}
+use Prim.Native.Nat.{ℕ, _+_, _*_, _≤_, _<_, max}
 use native.Mathlib.Nat.{le-max-left}
 use native.Mathlib.Omega.{arith}
-use mathlib.Core.Bool.{false}
+use mathlib.Core.Bool.{Bool, false}
 use mathlib.Core.Logic.{_↔_}
 use mathlib.Core.Path.{_≡_, sym, _∙_}
 use lib.Dec.{leb, ltb, eqb}
@@ -10,19 +10,19 @@ use borrow.Author.Tests.{leb-true, le-leb, lt-leb}
 use Rattle.laws.specs.Tests.{by-test}
 use Rattle.streams.specs.declared.CarFigures.{CarFigures}
 use Rattle.streams.specs.declared.Kind.{Kind}
-use Rattle.streams.specs.declared.Kind.the-variants.{Car, Tram, Pedestrian, Cyclist}
+use Rattle.streams.specs.declared.Kind.the-variants.{Car, Tram, Pedestrian, Cyclist, Island}
 use Rattle.streams.specs.declared.Stream.{Stream}
 use Rattle.times.specs.Comparison.{ratioRatio, ratioWithin, within}
 use Rattle.times.specs.Entry.{entry}
 use Rattle.times.specs.Least.{Moves, entry-least}
 use Rattle.times.specs.declared.Time.{Time}
 use Rattle.times.specs.declared.Time.the-variants.{Ratio}
-use Rattle.times.specs.Times.{carTime, carLeaving, stopLeaving, tramLeaving, leaving, passing, carReaching, tramReaching, countedReaching, reaching}
+use Rattle.times.specs.Times.{carTime, carLeaving, stopLeaving, tramLeaving, walkLeaving, leaving, passing, carReaching, tramReaching, countedReaching, walkReaching, reaching}
 use Rattle.exact_times.specs.Leaves.{LeavesInTime, LeavesByLetter}
 use Rattle.exact_times.specs.Numbers.{Sound, within-numbers}
 
 leaving-sound : (k : Kind) (l : ℕ) → Moves k → Sound (leaving k l)
-unfolding leaving carLeaving carTime tramLeaving stopLeaving
+unfolding leaving carLeaving carTime tramLeaving stopLeaving walkLeaving
 leaving-sound (Car c) l m =
     by-test (eqb (c .radius) 0) (λ e. rw e (omega arith))
     (λ e. by-test (ltb 150 (c .radius)) (λ f. rw (e, f) (omega arith)) (λ f. rw (e, f) (omega arith)))
@@ -30,13 +30,19 @@ leaving-sound (Tram t) l m =
     by-test (t .stop) (λ e. by-test (leb l 400) (λ f. rw (e, f) (omega arith)) (λ f. rw (e, f) (omega arith))) (λ e. rw e (omega arith))
 leaving-sound (Pedestrian p) l m = m
 leaving-sound (Cyclist y) l m = omega arith
+leaving-sound (Island i) l m = m
+
+counted-sound : (counted : Bool) (r speed : ℕ) → 0 < speed → Sound (countedReaching counted r speed)
+unfolding countedReaching
+counted-sound counted r speed h = by-test counted (λ e. rw e h) (λ e. rw e (omega arith))
 
 reaching-sound : (k : Kind) (r : ℕ) → Sound (reaching k r)
-unfolding reaching carReaching tramReaching countedReaching passing
+unfolding reaching carReaching tramReaching walkReaching passing
 reaching-sound (Car c) r = by-test (c .flying) (λ e. rw e (omega arith)) (λ e. rw e (omega arith))
 reaching-sound (Tram t) r = by-test (t .stop) (λ e. rw e (omega arith)) (λ e. rw e (omega arith))
-reaching-sound (Pedestrian p) r = by-test (p .counted) (λ e. rw e (omega arith)) (λ e. rw e (omega arith))
-reaching-sound (Cyclist y) r = by-test (y .counted) (λ e. rw e (omega arith)) (λ e. rw e (omega arith))
+reaching-sound (Pedestrian p) r = counted-sound (p .counted) r 15 (omega arith)
+reaching-sound (Cyclist y) r = counted-sound (y .counted) r 50 (omega arith)
+reaching-sound (Island i) r = counted-sound (i .walk .counted) r 15 (omega arith)
 
 -- from any stream that moves to any other, with any distances: the letter of document 01 says the same as the comparison of the numbers
 pub letter-same : (earlier later : Stream) (clearing reach seconds : ℕ) → Moves (earlier .kind)

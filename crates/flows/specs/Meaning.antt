@@ -13,8 +13,9 @@ use Rattle.laws.specs.Rounding.{up-least}
 use Rattle.laws.specs.Tests.{by-test, both-left, both-right}
 use Rattle.streams.specs.declared.CarFigures.{CarFigures}
 use Rattle.streams.specs.declared.PedestrianFigures.{PedestrianFigures}
+use Rattle.streams.specs.declared.IslandFigures.{IslandFigures}
 use Rattle.streams.specs.declared.TramFigures.{TramFigures}
-use Rattle.flows.specs.Needs.{longestCycle, tramNeed, crossingSpeed, disturbance, pedestrianNeed}
+use Rattle.flows.specs.Needs.{longestCycle, tramNeed, crossingSpeed, disturbance, pedestrianNeed, islandNeed}
 use Rattle.flows.specs.Saturation.{Row, table1, listedFrom, straightFlow, baseFlow, gradientPercent, conditionsPercent}
 use Rattle.flows.specs.Saturation.{turnDivisor, saturationFlow, flowRatio}
 use Rattle.flows.specs.lemmas.Bounds.{turn-positive}
@@ -42,6 +43,19 @@ unfolding pedestrianNeed
 pedestrian-least p k =
     let least = up-least (p .crossing + disturbance p * crossingSpeed p) (crossingSpeed p) k (crossing-positive p) in
     (λ h. (omega arith, least .0 (omega arith)), λ h. omega (arith, least .1 (h .1)))
+
+-- (39'): the least whole number that is at least 6 and at least both quotients, (wider carriageway + island + packet)/12 and crossing /
+-- speed, each plus 3 if disturbed
+pub island-least : (i : IslandFigures) (k : ℕ)
+    → (islandNeed i ≤ k)
+    ↔ ((6 ≤ k) × (i .wider + i .island + i .packet + disturbance (i .walk) * 12 ≤ k * 12)
+    × (i .walk .crossing + disturbance (i .walk) * crossingSpeed (i .walk) ≤ k * crossingSpeed (i .walk)))
+unfolding islandNeed
+island-least i k =
+    let by-crossing = pedestrian-least (i .walk) k in
+    let by-island = up-least (i .wider + i .island + i .packet + disturbance (i .walk) * 12) 12 k (omega arith) in
+    (λ h. (by-crossing .0 (omega arith) .0, by-island .0 (omega arith), by-crossing .0 (omega arith) .1),
+    λ h. omega (arith, by-crossing .1 (h .0, h .2), by-island .1 (h .1)))
 
 -- of the rows that are listed and not wider than w, r is the one with the greatest width
 pub record Greatest (rows : List Row) (w : ℕ) (r : Row) : Type 0 where

@@ -6,10 +6,11 @@ use lib.Dec.{leb, ltb}
 use lib.ListN.{getD}
 use Rattle.laws.specs.Rounding.{up}
 use Rattle.streams.specs.declared.Kind.{Kind}
-use Rattle.streams.specs.declared.Kind.the-variants.{Car, Tram, Pedestrian, Cyclist}
+use Rattle.streams.specs.declared.Kind.the-variants.{Car, Tram, Pedestrian, Cyclist, Island}
 use Rattle.streams.specs.declared.Stream.{Stream}
 use Rattle.streams.specs.declared.TramFigures.{TramFigures}
 use Rattle.streams.specs.declared.PedestrianFigures.{PedestrianFigures}
+use Rattle.streams.specs.declared.IslandFigures.{IslandFigures}
 
 -- Table 3: the longest cycle, in seconds, in which 15, 16, .. 34 trams an hour need 10 s
 unfoldable pub table3 : List ℕ
@@ -38,12 +39,18 @@ disturbance p = cond (p .disturbed) 3 0
 unfoldable pub pedestrianNeed : PedestrianFigures → ℕ
 pedestrianNeed p = max 6 (up (p .crossing + disturbance p * crossingSpeed p) (crossingSpeed p))
 
--- the needed green of a kind at a cycle: car (38), tram (Table 3), pedestrian (38 to 40), cyclist (40')
+-- formula (39'), for a crossing in one go over an island: (wider carriageway + island + packet)/12, plus 3 if disturbed, rounded up; and at
+-- least what the crossing needs without the island
+unfoldable pub islandNeed : IslandFigures → ℕ
+islandNeed i = max (pedestrianNeed (i .walk)) (up (i .wider + i .island + i .packet + disturbance (i .walk) * 12) 12)
+
+-- the needed green of a kind at a cycle: car (38), tram (Table 3), pedestrian (38 to 40), cyclist (40'), pedestrian over an island (39')
 unfoldable pub kindNeed : ℕ → Kind → ℕ
 kindNeed cycle (Car c) = 8
 kindNeed cycle (Tram t) = tramNeed cycle t
 kindNeed cycle (Pedestrian p) = pedestrianNeed p
 kindNeed cycle (Cyclist y) = 6
+kindNeed cycle (Island i) = islandNeed i
 
 unfoldable pub needAt : ℕ → Stream → ℕ
 needAt cycle s = kindNeed cycle (s .kind)

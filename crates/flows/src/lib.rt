@@ -1,18 +1,19 @@
 // Needed greens, saturation flows and flow ratios of the annex, section 2 (document 01, "Needs and flows").
 use streams::CarFigures;
+use streams::IslandFigures;
 use streams::Kind;
 use streams::PedestrianFigures;
 use streams::Stream;
 use streams::TramFigures;
 ghost use mathlib.Core.Path.{_≡_};
 ghost use Prim.Native.Nat.{_-_, _^_, min};
-ghost use Rattle.flows.specs.Needs.{needAt, tramNeed, longestCycle, pedestrianNeed, crossingSpeed, disturbance};
+ghost use Rattle.flows.specs.Needs.{needAt, tramNeed, longestCycle, pedestrianNeed, crossingSpeed, disturbance, islandNeed};
 ghost use Rattle.flows.specs.Saturation.{straightFlow, turningFlow, baseFlow, gradientPercent, conditionsPercent};
 ghost use Rattle.flows.specs.Saturation.{turnDivisor, saturationFlow, flowRatio};
 ghost use Rattle.flows.specs.lemmas.Bounds.{Bounded};
 
 // The needed green of a stream in seconds, at a cycle in seconds: 8 for cars (38), 10 or 20 for trams (Table 3), 6 for cyclists (40'), and for
-// pedestrians the time to cross, at least 6 (38 to 40). More than 34 trams an hour, which no file holds, count as 34.
+// pedestrians the time to cross, at least 6 (38 to 40; over an island 39'). More than 34 trams an hour, which no file holds, count as 34.
 pub fn need(s: Stream, cycle: u16) -> u32
     ensures { λ r. ⌜ r ≡ needAt cycle s ⌝ }
 {
@@ -22,6 +23,7 @@ pub fn need(s: Stream, cycle: u16) -> u32
         Kind::Tram(t) => tram_need(t, cycle),
         Kind::Pedestrian(p) => pedestrian_need(p),
         Kind::Cyclist(_) => 6,
+        Kind::Island(i) => island_need(i),
     }
 }
 
@@ -84,6 +86,16 @@ fn pedestrian_need(p: PedestrianFigures) -> u32
     let speed = crossing_speed(p);
     let way = p.crossing as u32 + disturbance(p) * speed;
     let green = laws::u64_larger(6, laws::div_up(way, speed) as u64);
+    green as u32
+}
+
+// Formula (39'), and at least what the crossing needs without the island.
+fn island_need(i: IslandFigures) -> u32
+    ensures { λ r. ⌜ r ≡ islandNeed i ⌝ }
+{
+    let walk = i.walk;
+    let way = i.wider as u32 + i.island as u32 + i.packet as u32 + disturbance(walk) * 12;
+    let green = laws::u64_larger(pedestrian_need(walk) as u64, laws::div_up(way, 12) as u64);
     green as u32
 }
 

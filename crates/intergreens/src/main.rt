@@ -162,6 +162,7 @@ fn put_kind(j: Junction, n: usize, kind: Kind, out: &mut [u8], at: usize) -> usi
         Kind::Tram(t) => put_tram(j, n, t, out, at),
         Kind::Pedestrian(_) => put_need(j, n, b"  pedestrian  needs ", MOST_SECONDS, out, at),
         Kind::Cyclist(_) => put_need(j, n, b"  cyclist     needs ", MOST_SECONDS, out, at),
+        Kind::Island(_) => put_need(j, n, b"  island      needs ", MOST_SECONDS, out, at),
     }
 }
 

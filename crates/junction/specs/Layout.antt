@@ -1,14 +1,18 @@
 -- The bodies of a junction file's fields: how long they are, which numbers are in range, and what they say (document 01, "The junction
 -- file"; questions 4 and 5).
-use Prim.Native.Nat.{ℕ, _+_}
+use Prim.Native.Nat.{ℕ, _+_, _%_, _≤_}
+use native.Mathlib.Omega.{arith}
 use mathlib.Core.Bool.{Bool, true, false, _&&_, _||_, cond}
 use mathlib.Core.List.{List}
+use mathlib.Core.Path.{_≡_}
 use lib.Dec.{leb, eqb}
 use lib.ListN.{length}
+use borrow.Author.Tests.{ne-eqb}
 use Rattle.limits.specs.Limits.{leastFlow, greatestFlow, mostPhases}
 use Rattle.fields.specs.Bytes.{byteAt, numberAt, byteIn, numberIn}
 use Rattle.streams.specs.declared.Kind.{Kind}
-use Rattle.streams.specs.declared.Kind.the-variants.{Car, Tram, Pedestrian, Cyclist}
+use Rattle.streams.specs.declared.Kind.the-variants.{Car, Tram, Pedestrian, Cyclist, Island}
+use Rattle.streams.specs.declared.PedestrianFigures.{PedestrianFigures}
 use Rattle.streams.specs.declared.Stream.{Stream}
 use Rattle.junction.specs.declared.Zone.{Zone}
 use Rattle.junction.specs.declared.Count.{Count}
@@ -70,16 +74,18 @@ unfoldable pub pedestrianInRange : List ℕ → Bool
 pedestrianInRange b =
     byteIn b 1 1 mostPhases && byteIn b 2 12 15 && numberIn b 3 10 600 && numberIn b 5 0 9999 && byteIn b 7 0 1 && byteIn b 8 0 1
 
-unfoldable pub pedestrianOf : List ℕ → Kind
-pedestrianOf b =
-    Pedestrian
-    (record {
+unfoldable pub walkOf : List ℕ → PedestrianFigures
+walkOf b =
+    record {
       speed = byteAt b 2;
       crossing = numberAt b 3;
       hourly = numberAt b 5;
       counted = eqb (byteAt b 7) 1;
       disturbed = eqb (byteAt b 8) 1;
-    })
+    }
+
+unfoldable pub pedestrianOf : List ℕ → Kind
+pedestrianOf b = Pedestrian (walkOf b)
 
 -- 4 cyclist, 3 bytes: reach counted (1; 0 or 1)
 unfoldable pub cyclistInRange : List ℕ → Bool
@@ -88,25 +94,47 @@ cyclistInRange b = byteIn b 1 1 mostPhases && byteIn b 2 0 1
 unfoldable pub cyclistOf : List ℕ → Kind
 cyclistOf b = Cyclist (record { counted = eqb (byteAt b 2) 1 })
 
+-- 5 pedestrian over an island, 15 bytes (document 02, 2026-01): as 3, then wider carriageway and island (2 each; 10 to 600), packet (2; 20 to
+-- 200, a multiple of 5)
+unfoldable pub islandInRange : List ℕ → Bool
+islandInRange b =
+    pedestrianInRange b && numberIn b 9 10 600 && numberIn b 11 10 600 && numberIn b 13 20 200 && eqb (numberAt b 13 % 5) 0
+
+unfoldable pub islandOf : List ℕ → Kind
+islandOf b = Island (record { walk = walkOf b; wider = numberAt b 9; island = numberAt b 11; packet = numberAt b 13 })
+
 -- a choice by the kind, with one for an unknown kind
-abbrev pub byKind : {A : Type 0} → ℕ → A → A → A → A → A → A
-byKind k car tram pedestrian cyclist unknown =
-    cond (eqb k 1) car (cond (eqb k 2) tram (cond (eqb k 3) pedestrian (cond (eqb k 4) cyclist unknown)))
+abbrev pub byKind : {A : Type 0} → ℕ → A → A → A → A → A → A → A
+byKind k car tram pedestrian cyclist island unknown =
+    cond (eqb k 1) car
+    (cond (eqb k 2) tram (cond (eqb k 3) pedestrian (cond (eqb k 4) cyclist (cond (eqb k 5) island unknown))))
+
+-- 6 and more are unknown
+pub by-unknown : {A : Type 0} (k : ℕ) → 6 ≤ k → (car tram pedestrian cyclist island unknown : A)
+    → byKind k car tram pedestrian cyclist island unknown ≡ unknown
+by-unknown k h car tram pedestrian cyclist island unknown =
+    simp (
+      ne-eqb k 1 (λ e. omega arith),
+      ne-eqb k 2 (λ e. omega arith),
+      ne-eqb k 3 (λ e. omega arith),
+      ne-eqb k 4 (λ e. omega arith),
+      ne-eqb k 5 (λ e. omega arith),
+    )
 
 -- question 4 of a stream, after its kind is read: an empty body fails, an unknown kind is not judged
 unfoldable pub streamLengthRight : List ℕ → Bool
 streamLengthRight b =
     cond (eqb (length b) 0) false
-    (byKind (byteAt b 0) (eqb (length b) 13) (eqb (length b) 6) (eqb (length b) 9) (eqb (length b) 3) true)
+    (byKind (byteAt b 0) (eqb (length b) 13) (eqb (length b) 6) (eqb (length b) 9) (eqb (length b) 3) (eqb (length b) 15) true)
 
 -- question 5 of a stream: an unknown kind is refused here
 unfoldable pub streamInRange : List ℕ → Bool
 streamInRange b =
-    byKind (byteAt b 0) (carInRange b) (tramInRange b) (pedestrianInRange b) (cyclistInRange b) false
+    byKind (byteAt b 0) (carInRange b) (tramInRange b) (pedestrianInRange b) (cyclistInRange b) (islandInRange b) false
 
 -- an unknown kind, which question 5 refuses, is read as a cyclist
 unfoldable pub kindOf : List ℕ → Kind
-kindOf b = byKind (byteAt b 0) (carOf b) (tramOf b) (pedestrianOf b) (cyclistOf b) (cyclistOf b)
+kindOf b = byKind (byteAt b 0) (carOf b) (tramOf b) (pedestrianOf b) (cyclistOf b) (islandOf b) (cyclistOf b)
 
 unfoldable pub streamOf : List ℕ → Stream
 streamOf b = record { phase = byteAt b 1; kind = kindOf b }

@@ -1,6 +1,6 @@
 // A junction, and what the bodies of a junction file's fields say (document 01, "The junction file").
 ghost use mathlib.Core.Path.{_≡_};
-ghost use Rattle.junction.specs.Layout.{designDay, radiusInRange, sharesInRange, carInRange, carOf, tramInRange, tramOf, pedestrianInRange, pedestrianOf, cyclistInRange, cyclistOf, streamLengthRight, streamInRange, kindOf, streamOf, zoneInRange, zoneOf, countInRange, countOf};
+ghost use Rattle.junction.specs.Layout.{designDay, radiusInRange, sharesInRange, carInRange, carOf, tramInRange, tramOf, pedestrianInRange, walkOf, pedestrianOf, cyclistInRange, cyclistOf, islandInRange, islandOf, streamLengthRight, streamInRange, kindOf, streamOf, zoneInRange, zoneOf, countInRange, countOf};
 use fields::byte;
 use fields::byte_in;
 use fields::number;
@@ -12,6 +12,7 @@ use limits::MOST_STREAMS;
 use limits::MOST_ZONES;
 use streams::CarFigures;
 use streams::CyclistFigures;
+use streams::IslandFigures;
 use streams::Kind;
 use streams::PedestrianFigures;
 use streams::Stream;
@@ -75,40 +76,28 @@ pub fn stream_length_right(b: &[u8]) -> bool
     if n == 0 {
         return false;
     }
-    let kind = byte(b, 0);
-    if kind == 1 {
-        return n == 13;
+    match byte(b, 0) {
+        1 => n == 13,
+        2 => n == 6,
+        3 => n == 9,
+        4 => n == 3,
+        5 => n == 15,
+        0 | 6.. => true,
     }
-    if kind == 2 {
-        return n == 6;
-    }
-    if kind == 3 {
-        return n == 9;
-    }
-    if kind == 4 {
-        return n == 3;
-    }
-    true
 }
 
 // Whether the kind of a stream's body is known and each of its numbers in range.
 pub fn stream_in_range(b: &[u8]) -> bool
     ensures { λ r. ⌜ r ≡ streamInRange (now (b .entry)) ⌝ }
 {
-    let kind = byte(b, 0);
-    if kind == 1 {
-        return car_in_range(b);
+    match byte(b, 0) {
+        1 => car_in_range(b),
+        2 => tram_in_range(b),
+        3 => pedestrian_in_range(b),
+        4 => cyclist_in_range(b),
+        5 => island_in_range(b),
+        0 | 6.. => false,
     }
-    if kind == 2 {
-        return tram_in_range(b);
-    }
-    if kind == 3 {
-        return pedestrian_in_range(b);
-    }
-    if kind == 4 {
-        return cyclist_in_range(b);
-    }
-    false
 }
 
 // The stream of a body, read as a cyclist's where the kind is unknown.
@@ -124,17 +113,14 @@ pub fn stream_of(b: &[u8]) -> Stream
 fn kind_of(b: &[u8]) -> Kind
     ensures { λ r. ⌜ r ≡ kindOf (now (b .entry)) ⌝ }
 {
-    let kind = byte(b, 0);
-    if kind == 1 {
-        return car_of(b);
+    match byte(b, 0) {
+        1 => car_of(b),
+        2 => tram_of(b),
+        3 => pedestrian_of(b),
+        4 => cyclist_of(b),
+        5 => island_of(b),
+        0 | 6.. => cyclist_of(b),
     }
-    if kind == 2 {
-        return tram_of(b);
-    }
-    if kind == 3 {
-        return pedestrian_of(b);
-    }
-    cyclist_of(b)
 }
 
 fn car_in_range(b: &[u8]) -> bool
@@ -210,13 +196,20 @@ fn pedestrian_in_range(b: &[u8]) -> bool
 fn pedestrian_of(b: &[u8]) -> Kind
     ensures { λ r. ⌜ r ≡ pedestrianOf (now (b .entry)) ⌝ }
 {
-    Kind::Pedestrian(PedestrianFigures {
+    Kind::Pedestrian(walk_of(b))
+}
+
+// What pedestrians have over an island too.
+fn walk_of(b: &[u8]) -> PedestrianFigures
+    ensures { λ r. ⌜ r ≡ walkOf (now (b .entry)) ⌝ }
+{
+    PedestrianFigures {
         speed: byte(b, 2),
         crossing: number(b, 3),
         hourly: number(b, 5),
         counted: byte(b, 7) == 1,
         disturbed: byte(b, 8) == 1,
-    })
+    }
 }
 
 fn cyclist_in_range(b: &[u8]) -> bool
@@ -230,6 +223,27 @@ fn cyclist_of(b: &[u8]) -> Kind
 {
     Kind::Cyclist(CyclistFigures {
         counted: byte(b, 2) == 1,
+    })
+}
+
+fn island_in_range(b: &[u8]) -> bool
+    ensures { λ r. ⌜ r ≡ islandInRange (now (b .entry)) ⌝ }
+{
+    pedestrian_in_range(b)
+        & number_in(b, 9, 10, 600)
+        & number_in(b, 11, 10, 600)
+        & number_in(b, 13, 20, 200)
+        & (number(b, 13) % 5 == 0)
+}
+
+fn island_of(b: &[u8]) -> Kind
+    ensures { λ r. ⌜ r ≡ islandOf (now (b .entry)) ⌝ }
+{
+    Kind::Island(IslandFigures {
+        walk: walk_of(b),
+        wider: number(b, 9),
+        island: number(b, 11),
+        packet: number(b, 13),
     })
 }
 

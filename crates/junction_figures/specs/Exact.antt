@@ -10,7 +10,7 @@ use borrow.Author.Tests.{eqb-true}
 use Rattle.laws.specs.Ranges.{Between}
 use Rattle.laws.specs.Tests.{by-test, both-left, both-right}
 use Rattle.streams.specs.declared.Kind.{Kind}
-use Rattle.streams.specs.declared.Kind.the-variants.{Car, Tram, Pedestrian, Cyclist}
+use Rattle.streams.specs.declared.Kind.the-variants.{Car, Tram, Pedestrian, Cyclist, Island}
 use Rattle.exact_times.specs.Leaves.{LeavesInTime}
 use Rattle.exact_times.specs.Streams.{entry-exact}
 use Rattle.times.specs.Entry.{entry}
@@ -35,6 +35,7 @@ moves (Car c) r = omega arith
 moves (Tram t) r = omega arith
 moves (Pedestrian p) r = omega arith
 moves (Cyclist y) r = tt
+moves (Island i) r = omega arith
 
 module _ (j : Junction) (t : Taken j) where
   pub stream-moves : (n : ℕ) → Between 1 (j .held .streams) n → Moves (streamNumbered j n .kind)

@@ -7,7 +7,7 @@ use Rattle.laws.specs.Largest.{largestOf, largest-at-most}
 use Rattle.laws.specs.Search.{firstBelow}
 use Rattle.streams.specs.declared.Kind.{Kind}
 use Rattle.streams.specs.declared.Stream.{Stream}
-use Rattle.streams.specs.declared.Kind.the-variants.{Car, Tram, Pedestrian, Cyclist}
+use Rattle.streams.specs.declared.Kind.the-variants.{Car, Tram, Pedestrian, Cyclist, Island}
 use Rattle.times.specs.Entry.{entry}
 use Rattle.flows.specs.Needs.{needAt}
 use Rattle.flows.specs.Saturation.{saturationFlow, flowRatio}
@@ -76,6 +76,7 @@ kindSaturation (Car c) = saturationFlow c
 kindSaturation (Tram t) = 0
 kindSaturation (Pedestrian p) = 0
 kindSaturation (Cyclist y) = 0
+kindSaturation (Island i) = 0
 
 unfoldable pub streamSaturation : Junction → ℕ → ℕ
 streamSaturation j n = kindSaturation (streamNumbered j n .kind)

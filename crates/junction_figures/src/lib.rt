@@ -130,6 +130,7 @@ pub fn saturation(s: Stream) -> u32
         Kind::Tram(_) => 0,
         Kind::Pedestrian(_) => 0,
         Kind::Cyclist(_) => 0,
+        Kind::Island(_) => 0,
     }
 }
 

@@ -1,6 +1,6 @@
 -- What is true of a junction whose file is taken: the junction's questions refuse nothing (document 01, "The junction file" and "Questions
 -- in order"). TakenFile.antt has the theorem.
-use Prim.Native.Nat.{ℕ, _+_, _≤_, _<_}
+use Prim.Native.Nat.{ℕ, _+_, _%_, _≤_, _<_}
 use mathlib.Core.Bool.{true}
 use mathlib.Core.Logic.{_↔_, _⊎_}
 use mathlib.Core.Path.{_≡_}
@@ -11,8 +11,9 @@ use Rattle.limits.specs.Limits.{leastFlow, greatestFlow, mostPhases}
 use Rattle.streams.specs.declared.CarFigures.{CarFigures}
 use Rattle.streams.specs.declared.TramFigures.{TramFigures}
 use Rattle.streams.specs.declared.PedestrianFigures.{PedestrianFigures}
+use Rattle.streams.specs.declared.IslandFigures.{IslandFigures}
 use Rattle.streams.specs.declared.Kind.{Kind}
-use Rattle.streams.specs.declared.Kind.the-variants.{Car, Tram, Pedestrian, Cyclist}
+use Rattle.streams.specs.declared.Kind.the-variants.{Car, Tram, Pedestrian, Cyclist, Island}
 use Rattle.streams.specs.declared.Stream.{Stream}
 use Rattle.junction.specs.declared.Count.{Count}
 use Rattle.junction.specs.declared.Junction.{Junction}
@@ -43,11 +44,19 @@ pub record PedestrianRanges (p : PedestrianFigures) : Type 0 where
   pub crossing : Between 10 600 (p .crossing)
   pub hourly : p .hourly ≤ 9999
 
+pub record IslandRanges (i : IslandFigures) : Type 0 where
+  pub walk : PedestrianRanges (i .walk)
+  pub wider : Between 10 600 (i .wider)
+  pub island : Between 10 600 (i .island)
+  pub packet : Between 20 200 (i .packet)
+  pub fives : i .packet % 5 ≡ 0
+
 abbrev pub KindRanges : Kind → Type 0
 KindRanges (Car c) = CarRanges c
 KindRanges (Tram t) = TramRanges t
 KindRanges (Pedestrian p) = PedestrianRanges p
 KindRanges (Cyclist y) = Unit {0}
+KindRanges (Island i) = IslandRanges i
 
 pub record StreamInRange (x : Stream) : Type 0 where
   pub phase : Between 1 mostPhases (x .phase)

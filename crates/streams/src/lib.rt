@@ -49,12 +49,25 @@ pub struct CyclistFigures {
     pub counted: bool,
 }
 
+// Pedestrians who cross a carriageway with an island in one go.
+pub struct IslandFigures {
+    // What the crossing has as any other.
+    pub walk: PedestrianFigures,
+    // Width of the wider carriageway.
+    pub wider: u16,
+    // Width of the island.
+    pub island: u16,
+    // Length of the packet of people.
+    pub packet: u16,
+}
+
 // Each kind of stream has figures of its own.
 pub enum Kind {
     Car(CarFigures),
     Tram(TramFigures),
     Pedestrian(PedestrianFigures),
     Cyclist(CyclistFigures),
+    Island(IslandFigures),
 }
 
 pub struct Stream {
@@ -72,10 +85,11 @@ pub fn is_car(s: Stream) -> bool
         Kind::Tram(_) => false,
         Kind::Pedestrian(_) => false,
         Kind::Cyclist(_) => false,
+        Kind::Island(_) => false,
     }
 }
 
-// Whether a stream is of pedestrians or trams.
+// Whether a stream is of pedestrians, over an island too, or of trams.
 pub fn is_pedestrian_or_tram(s: Stream) -> bool
     ensures { λ r. ⌜ r ≡ isPedestrianOrTram (s .kind) ⌝ }
 {
@@ -85,5 +99,6 @@ pub fn is_pedestrian_or_tram(s: Stream) -> bool
         Kind::Tram(_) => true,
         Kind::Pedestrian(_) => true,
         Kind::Cyclist(_) => false,
+        Kind::Island(_) => true,
     }
 }

@@ -2,18 +2,19 @@
 use Prim.Native.Nat.{ℕ, _+_, _-_, _*_, _≤_, _<_}
 use native.Mathlib.Nat.{le-trans, add-zero, sub-add-cancel, mul-le-mul, mul-le-mul-left, mul-le-mul-right}
 use native.Mathlib.Omega.{arith}
-use mathlib.Core.Bool.{true}
+use mathlib.Core.Bool.{Bool, true}
 use mathlib.Core.Path.{_≡_, sym, _∙_, ap}
 use lib.Dec.{leb, ltb, eqb}
 use borrow.Author.Tests.{le-leb, leb-true}
 use Rattle.laws.specs.Tests.{by-test}
 use Rattle.streams.specs.declared.Kind.{Kind}
-use Rattle.streams.specs.declared.Kind.the-variants.{Car, Tram, Pedestrian, Cyclist}
+use Rattle.streams.specs.declared.Kind.the-variants.{Car, Tram, Pedestrian, Cyclist, Island}
+use Rattle.streams.specs.declared.PedestrianFigures.{PedestrianFigures}
 use Rattle.streams.specs.declared.Stream.{Stream}
 use Rattle.times.specs.declared.Time.{Time}
 use Rattle.times.specs.declared.Time.the-variants.{Ratio, Root}
 use Rattle.times.specs.Comparison.{ratioRatio, ratioRoot, rootRatio, rootAfter, rootRoot, ratioWithin, rootWithin, within, belowRoot}
-use Rattle.times.specs.Times.{carTime, carLeaving, stopLeaving, tramLeaving, leaving, passing, carReaching, tramReaching, countedReaching, reaching}
+use Rattle.times.specs.Times.{carTime, carLeaving, stopLeaving, tramLeaving, walkLeaving, leaving, passing, carReaching, tramReaching, countedReaching, walkReaching, reaching}
 use Rattle.times.specs.Entry.{entry, gap-decides, gap-least}
 
 -- a reaching time that is not below 0, and less by no more than the gap
@@ -49,12 +50,17 @@ module _ (g : ℕ) where
       rw (le-leb c g (late .0))
       (after-clears (q * f) (p * e) (e * f) c (g - c) (omega (arith, mul-le-mul-right f h)) (omega (arith, mul-le-mul-right e (late .1))))
 
+counted-late : (counted : Bool) (r speed : ℕ) → NotEarly 999 (countedReaching counted r speed)
+unfolding countedReaching
+counted-late counted r speed = by-test counted (λ e. rw e tt) (λ e. rw e tt)
+
 reaching-late : (k : Kind) (r : ℕ) → NotEarly 999 (reaching k r)
-unfolding reaching carReaching tramReaching countedReaching passing
+unfolding reaching carReaching tramReaching walkReaching passing
 reaching-late (Car c) r = by-test (c .flying) (λ e. rw e tt) (λ e. rw e (omega arith))
 reaching-late (Tram t) r = by-test (t .stop) (λ e. rw e (omega arith)) (λ e. rw e tt)
-reaching-late (Pedestrian p) r = by-test (p .counted) (λ e. rw e tt) (λ e. rw e tt)
-reaching-late (Cyclist y) r = by-test (y .counted) (λ e. rw e tt) (λ e. rw e tt)
+reaching-late (Pedestrian p) r = counted-late (p .counted) r 15
+reaching-late (Cyclist y) r = counted-late (y .counted) r 50
+reaching-late (Island i) r = counted-late (i .walk .counted) r 15
 
 -- figures with which a stream clears in finite time: a pedestrian's speed is not 0, and amber and tram length fit their bytes
 abbrev pub Moves : Kind → Type 0
@@ -62,6 +68,7 @@ Moves (Car c) = c .amber < 256
 Moves (Tram t) = t .length < 65536
 Moves (Pedestrian p) = 0 < p .speed
 Moves (Cyclist y) = Unit {0}
+Moves (Island i) = 0 < i .walk .speed
 
 module _ (l : ℕ) (low : l ≤ 999) (reach : Time) (late : NotEarly 999 reach) where
   car-clears : (approach speed amber : ℕ) → approach ≤ 3 → 50 ≤ speed → amber < 256 → within (carTime approach speed amber l) reach 999 ≡ true
@@ -76,6 +83,10 @@ module _ (l : ℕ) (low : l ≤ 999) (reach : Time) (late : NotEarly 999 reach) 
       (λ e. rw e (simp add-zero (root-clears 999 (l + length) 5 reach late (omega arith))))
       (λ e. rw e (ratio-clears 999 _ 1110 reach late (omega arith)))
 
+  walk-clears : (p : PedestrianFigures) → 0 < p .speed → within (walkLeaving p l) reach 999 ≡ true
+  unfolding walkLeaving within
+  walk-clears p m = ratio-clears 999 l (p .speed) reach late (omega arith)
+
   leaves : (k : Kind) → Moves k → within (leaving k l) reach 999 ≡ true
   unfolding leaving carLeaving tramLeaving within
   leaves (Car c) m =
@@ -87,8 +98,9 @@ module _ (l : ℕ) (low : l ≤ 999) (reach : Time) (late : NotEarly 999 reach) 
       (λ t. rw t (car-clears 2 50 (c .amber) (omega arith) (omega arith) m))))
   leaves (Tram t) m =
       by-test (t .stop) (λ e. rw e (stop-clears (t .length) m)) (λ e. rw e (ratio-clears 999 _ 1000 reach late (omega arith)))
-  leaves (Pedestrian p) m = ratio-clears 999 l (p .speed) reach late (omega arith)
+  leaves (Pedestrian p) m = walk-clears p m
   leaves (Cyclist y) m = ratio-clears 999 _ 40 reach late (omega arith)
+  leaves (Island i) m = walk-clears (i .walk) m
 
 -- an entry is at most 999 s
 pub entry-small : (i j : Stream) (clearing reach : ℕ) → Moves (i .kind) → clearing ≤ 999 → entry i j clearing reach ≤ 999

@@ -6,9 +6,10 @@ use lib.Dec.{leb, ltb, eqb}
 use Rattle.times.specs.declared.Time.{Time}
 use Rattle.times.specs.declared.Time.the-variants.{Ratio, Root}
 use Rattle.streams.specs.declared.Kind.{Kind}
-use Rattle.streams.specs.declared.Kind.the-variants.{Car, Tram, Pedestrian, Cyclist}
+use Rattle.streams.specs.declared.Kind.the-variants.{Car, Tram, Pedestrian, Cyclist, Island}
 use Rattle.streams.specs.declared.CarFigures.{CarFigures}
 use Rattle.streams.specs.declared.TramFigures.{TramFigures}
+use Rattle.streams.specs.declared.PedestrianFigures.{PedestrianFigures}
 
 -- approach + (l + 60)/speed, raised to amber + 1 if lower (9')
 unfoldable pub carTime : ℕ → ℕ → ℕ → ℕ → Time
@@ -30,13 +31,17 @@ stopLeaving t l = cond (leb l 400) (Root (l + t) 5 0) (Ratio (12321 + 10 * (l - 
 unfoldable pub tramLeaving : TramFigures → ℕ → Time
 tramLeaving t l = cond (t .stop) (stopLeaving (t .length) l) (Ratio (5100 + 9 * (l + t .length)) 1000)
 
--- the time from the end of green until the last participant leaves, with clearing distance l; pedestrian l/speed (5, 12), cyclist
--- 1 + l/40 (5', 12')
+-- pedestrian, over an island too: l/speed (5, 12)
+unfoldable pub walkLeaving : PedestrianFigures → ℕ → Time
+walkLeaving p l = Ratio l (p .speed)
+
+-- the time from the end of green until the last participant leaves, with clearing distance l; cyclist 1 + l/40 (5', 12')
 unfoldable pub leaving : Kind → ℕ → Time
 leaving (Car c) l = carLeaving c l
 leaving (Tram t) l = tramLeaving t l
-leaving (Pedestrian p) l = Ratio l (p .speed)
+leaving (Pedestrian p) l = walkLeaving p l
 leaving (Cyclist y) l = Ratio (40 + l) 40
+leaving (Island i) l = walkLeaving (i .walk) l
 
 -- flying car and running tram: 9r/1000 (14, 16)
 unfoldable pub passing : ℕ → Time
@@ -54,9 +59,14 @@ tramReaching t r = cond (t .stop) (Root (r + 15) 5 0) (passing r)
 unfoldable pub countedReaching : Bool → ℕ → ℕ → Time
 countedReaching counted r speed = cond counted (Ratio r speed) (Ratio 0 1)
 
+-- pedestrian, over an island too
+unfoldable pub walkReaching : PedestrianFigures → ℕ → Time
+walkReaching p r = countedReaching (p .counted) r 15
+
 -- the time from the start of green until the first participant reaches the zone, with reaching distance r
 unfoldable pub reaching : Kind → ℕ → Time
 reaching (Car c) r = carReaching c r
 reaching (Tram t) r = tramReaching t r
-reaching (Pedestrian p) r = countedReaching (p .counted) r 15
+reaching (Pedestrian p) r = walkReaching p r
 reaching (Cyclist y) r = countedReaching (y .counted) r 50
+reaching (Island i) r = walkReaching (i .walk) r

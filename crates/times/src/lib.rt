@@ -3,10 +3,11 @@ ghost use mathlib.Core.Path.{_≡_};
 ghost use Prim.Native.Nat.{_≤_, _^_};
 ghost use Rattle.times.specs.lemmas.Bounds.{TimeSmall, SmallRatio, SmallRoot, SmallRoots, Timed};
 ghost use Rattle.times.specs.Comparison.{ratioRatio, ratioRoot, rootRatio, rootAfter, rootBefore, rootRoot, ratioWithin, rootWithin, within as withinGap};
-ghost use Rattle.times.specs.Times.{carTime, carLeaving, stopLeaving, tramLeaving, leaving as leavingTime, passing as passingTime, carReaching, tramReaching, countedReaching, reaching as reachingTime};
+ghost use Rattle.times.specs.Times.{carTime, carLeaving, stopLeaving, tramLeaving, walkLeaving, leaving as leavingTime, passing as passingTime, carReaching, tramReaching, countedReaching, walkReaching, reaching as reachingTime};
 ghost use Rattle.times.specs.Entry.{leastGap, entry as entryOf};
 use streams::CarFigures;
 use streams::Kind;
+use streams::PedestrianFigures;
 use streams::Stream;
 use streams::TramFigures;
 
@@ -126,22 +127,19 @@ fn root_before(a: u64, p: u64, s: u64, h: u64) -> bool
     (low <= p) & (4 * square * s * a <= side * side)
 }
 
-// The time from the end of green until the last participant leaves, with clearing distance l; a pedestrian's by (5, 12), a cyclist's by
-// (5', 12').
+// The time from the end of green until the last participant leaves, with clearing distance l; a cyclist's by (5', 12').
 fn leaving(kind: Kind, l: u16) -> Time
     ensures { λ r. ⌜ Timed r (leavingTime kind l) ⌝ }
 {
     match kind {
         Kind::Car(c) => car_leaving(c, l),
         Kind::Tram(t) => tram_leaving(t, l),
-        Kind::Pedestrian(p) => Time::Ratio {
-            n: l as u64,
-            d: p.speed as u64,
-        },
-        Kind::Cyclist(y) => Time::Ratio {
+        Kind::Pedestrian(p) => walk_leaving(p, l),
+        Kind::Cyclist(_) => Time::Ratio {
             n: 40 + l as u64,
             d: 40,
         },
+        Kind::Island(i) => walk_leaving(i.walk, l),
     }
 }
 
@@ -201,6 +199,16 @@ fn stop_leaving(length: u16, l: u16) -> Time
     Time::Ratio { n: parts, d: 1110 }
 }
 
+// A pedestrian, over an island too (5, 12).
+fn walk_leaving(p: PedestrianFigures, l: u16) -> Time
+    ensures { λ r. ⌜ Timed r (walkLeaving p l) ⌝ }
+{
+    Time::Ratio {
+        n: l as u64,
+        d: p.speed as u64,
+    }
+}
+
 // The time from the start of green until the first participant reaches the zone, with reaching distance r.
 fn reaching(kind: Kind, r: u16) -> Time
     ensures { λ t. ⌜ Timed t (reachingTime kind r) ⌝ }
@@ -208,8 +216,9 @@ fn reaching(kind: Kind, r: u16) -> Time
     match kind {
         Kind::Car(c) => car_reaching(c, r),
         Kind::Tram(t) => tram_reaching(t, r),
-        Kind::Pedestrian(p) => counted_reaching(p.counted, r, 15),
+        Kind::Pedestrian(p) => walk_reaching(p, r),
         Kind::Cyclist(y) => counted_reaching(y.counted, r, 50),
+        Kind::Island(i) => walk_reaching(i.walk, r),
     }
 }
 
@@ -250,6 +259,13 @@ fn passing(r: u16) -> Time
         n: thousandths,
         d: 1000,
     }
+}
+
+// A pedestrian, over an island too (17, 18).
+fn walk_reaching(p: PedestrianFigures, r: u16) -> Time
+    ensures { λ t. ⌜ Timed t (walkReaching p r) ⌝ }
+{
+    counted_reaching(p.counted, r, 15)
 }
 
 // (18), (18') where the time is counted, else 0 (17, 17').

@@ -14,6 +14,14 @@ car amber = 2 ∷ 0 ∷ 13 ∷ 1 ∷ 1 ∷ amber ∷ 0 ∷ 0 ∷ 0 ∷ 1 ∷ 94 
 unfoldable pub pedestrian : List ℕ
 pedestrian = 2 ∷ 0 ∷ 9 ∷ 3 ∷ 2 ∷ 12 ∷ 0 ∷ 70 ∷ 0 ∷ 200 ∷ 0 ∷ 0 ∷ []
 
+-- the same over an island, with wider carriageway, island and packet, all below 256
+unfoldable pub island : ℕ → ℕ → ℕ → List ℕ
+island wider between packet = 2 ∷ 0 ∷ 15 ∷ 5 ∷ 2 ∷ 12 ∷ 0 ∷ 70 ∷ 0 ∷ 200 ∷ 0 ∷ 0 ∷ 0 ∷ wider ∷ 0 ∷ between ∷ 0 ∷ packet ∷ []
+
+-- a stream of a kind with the length of a pedestrian
+unfoldable pub ofKind : ℕ → List ℕ
+ofKind kind = 2 ∷ 0 ∷ 9 ∷ kind ∷ 2 ∷ 12 ∷ 0 ∷ 70 ∷ 0 ∷ 200 ∷ 0 ∷ 0 ∷ []
+
 -- a cyclist of a phase, with the byte that says whether its reach is counted
 unfoldable pub cyclist : ℕ → ℕ → List ℕ
 cyclist phase counted = 2 ∷ 0 ∷ 3 ∷ 4 ∷ phase ∷ counted ∷ []

@@ -10,8 +10,8 @@ use Rattle.plan_judge.specs.Judgement.{judgement}
 use Rattle.cycle_search.specs.Planning.{firstTried}
 use Rattle.junction_file.specs.Reading.{reading}
 use Rattle.planner.specs.WorkingOut.{worked}
-use Rattle.whole_case.specs.Fields.{heading, car, pedestrian, cyclist, zone, count, cycle11, green12}
-use Rattle.whole_case.specs.WholeCase.{WC, WP, planFrom, toJudge, toPlan}
+use Rattle.whole_case.specs.Fields.{heading, car, pedestrian, island, ofKind, cyclist, zone, count, cycle11, green12}
+use Rattle.whole_case.specs.WholeCase.{WC, WI, WP, planFrom, toJudge, toPlan}
 
 record Case : Type 0 where
   junction : List ℕ
@@ -33,7 +33,7 @@ unfolding cyclists
 seventeenth field = heading ++ car 3 ++ pedestrian ++ cyclists 14 ++ field
 
 table : List Case
-unfolding case seventeenth heading car pedestrian cyclist zone count cycle11 green12
+unfolding case seventeenth WI heading car pedestrian island ofKind cyclist zone count cycle11 green12
 table =
     -- the last byte is cut off
     case (take 57 WC) WP (Refused 2 48) ∷
@@ -41,6 +41,11 @@ table =
     case (heading ++ heading) WP (Refused 3 7) ∷
     -- a heading of 3 bytes
     case (1 ∷ 0 ∷ 3 ∷ 0 ∷ 7 ∷ 35 ∷ []) WP (Refused 4 0) ∷
+    -- kind 5 with the length of kind 3; kind 6 is unknown, whatever its length
+    case (heading ++ car 3 ++ ofKind 5) WP (Refused 4 23) ∷
+    case (heading ++ car 3 ++ ofKind 6) WP (Refused 5 23) ∷
+    -- a packet of 22, between two multiples of 5
+    case (heading ++ car 3 ++ island 60 20 22) WP (Refused 5 23) ∷
     -- amber 2
     case (heading ++ car 2 ++ pedestrian ++ zone 1 2 ++ count 40 600) WP (Refused 5 7) ∷
     -- a seventeenth stream; and one with a number out of range, which comes first
@@ -60,6 +65,8 @@ table =
     case WC (cycle11 0 ++ green12 1 0 35 ++ green12 2 40 6) (Refused 13 0) ∷
     -- 5 s of green for the pedestrian, who needs 6
     case WC (cycle11 50 ++ green12 1 0 35 ++ green12 2 40 5) (Refused 15 2) ∷
+    -- 9 s over the island, which needs 10
+    case WI (cycle11 57 ++ green12 1 0 38 ++ green12 2 43 9) (Refused 15 2) ∷
     -- 8 s for the car, which needs them but has 600 × 50 to serve with 1,925 × 9
     case WC (cycle11 50 ++ green12 1 0 8 ++ green12 2 40 6) (Refused 16 1) ∷
     -- both: the need of stream 2 comes before the capacity of stream 1

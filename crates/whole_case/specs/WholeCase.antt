@@ -11,7 +11,7 @@ use Rattle.fields.specs.Verdict.{firstFailing, askEach}
 use Rattle.fields.specs.declared.Verdict.the-variants.{Passed, Refused}
 use Rattle.counts.specs.Newest.{usable, rank, rankFlow}
 use Rattle.junction.specs.Layout.{designDay, radiusInRange, sharesInRange, carInRange, carOf, tramInRange, tramOf}
-use Rattle.junction.specs.Layout.{pedestrianInRange, pedestrianOf, cyclistInRange, cyclistOf, streamLengthRight, streamInRange, kindOf, streamOf, zoneInRange, zoneOf, countInRange, countOf}
+use Rattle.junction.specs.Layout.{pedestrianInRange, walkOf, pedestrianOf, cyclistInRange, cyclistOf, islandInRange, islandOf, streamLengthRight, streamInRange, kindOf, streamOf, zoneInRange, zoneOf, countInRange, countOf}
 use Rattle.junction_questions.specs.Questions.{inOrder, lengthRight, inRange, withinLimit}
 use Rattle.junction_places.specs.Places.{streamAt, countAt, zoneAt, streamNumbered, zoneNumbered}
 use Rattle.junction_questions.specs.Questions.{zoneRefers, carRefers, refers, bodyVerdict, fieldVerdict, inPhase, firstInPhase, phaseUsed, phaseFollows, phasesRight, carAt}
@@ -29,7 +29,7 @@ use Rattle.junction_phases.specs.JunctionPhases.{isIn, carIn, hasCars, phaseRat
 use Rattle.cycle_search.specs.Planning.{ratios, firstTried, phaseGreen, planAt, outcome, works, cycleFrom, cycle, found}
 use Rattle.planner.specs.WorkingOut.{calculation, junctionVerdict, junctionWorked, junctionBuffer, worked, buffer}
 use Rattle.worked_values.specs.Computed.{toTimes, toFlows, toPhases}
-use Rattle.whole_case.specs.Fields.{heading, car, pedestrian, zone, count, cycle11, green12}
+use Rattle.whole_case.specs.Fields.{heading, car, pedestrian, island, zone, count, cycle11, green12}
 
 -- WC: the junction file with design day 9,000, the car, the pedestrian, their zone, and 600 E/h counted on the design day
 unfoldable pub WC : List ℕ
@@ -64,8 +64,8 @@ unfolding WC WP planFrom reading readFrom atEnd readField afterField withField w
     fieldVerdict bodyVerdict inOrder lengthRight inRange withinLimit refers zoneRefers carRefers numbered exists
     streamNumbered streamAt countAt zoneAt wholeVerdict whole countsVerdict firstLacking lacksCount newestRank rankAt
     firstCar carAt phasesRight phaseFollows phaseUsed firstInPhase inPhase largestOf firstBelow firstOf rank usable
-    designDay radiusInRange sharesInRange carInRange carOf tramInRange tramOf pedestrianInRange pedestrianOf cyclistInRange cyclistOf
-    streamLengthRight streamInRange kindOf streamOf zoneInRange zoneOf countInRange countOf
+    designDay radiusInRange sharesInRange carInRange carOf tramInRange tramOf pedestrianInRange walkOf pedestrianOf cyclistInRange cyclistOf
+    islandInRange islandOf streamLengthRight streamInRange kindOf streamOf zoneInRange zoneOf countInRange countOf
     byteAt numberAt fieldEnd fits bodyOf byteIn numberIn
 toRead = tt
 
@@ -130,3 +130,17 @@ planned = refl
 left : buffer WC (replicate 23 255) ≡ WP ++ (255 ∷ 255 ∷ [])
 unfolding toPlan
 left = refl
+
+-- WI: the whole case with an island in its crossing (document 02, 2026-01), B 60, u 20, P 40: (60 + 20 + 40)/12 s are needed
+unfoldable pub WI : List ℕ
+unfolding heading car island zone count
+WI = heading ++ car 3 ++ island 60 20 40 ++ zone 1 2 ++ count 40 600
+
+-- L is 5 - 1 + 10 + 4 = 18, T0 57, and the plan of 57 s is accepted; the car has 57 - 18 - 1
+island-planned : worked WI 21 ≡ record { verdict = Passed; cycle = 57; tried = 1; size = 21 }
+unfolding WI toPlan
+island-planned = refl
+
+island-left : buffer WI (replicate 21 255) ≡ cycle11 57 ++ green12 1 0 38 ++ green12 2 43 10
+unfolding WI cycle11 green12 toPlan
+island-left = refl

@@ -3,20 +3,20 @@ use Rattle.laws.specs.Rounding.{up}
 use Rattle.laws.specs.Search.{firstBelow, firstOf}
 use Rattle.laws.specs.Sums.{sumOf}
 use Rattle.times.specs.Comparison.{belowRoot, rootBelow, ratioRatio, ratioRoot, rootRatio, rootAfter, rootBefore, rootRoot, ratioWithin, rootWithin, within}
-use Rattle.times.specs.Times.{carTime, carLeaving, stopLeaving, tramLeaving, leaving, passing, carReaching, tramReaching, countedReaching, reaching}
+use Rattle.times.specs.Times.{carTime, carLeaving, stopLeaving, tramLeaving, walkLeaving, leaving, passing, carReaching, tramReaching, countedReaching, walkReaching, reaching}
 use Rattle.times.specs.Entry.{leastGap, entry}
-use Rattle.flows.specs.Needs.{table3, longestCycle, tramNeed, crossingSpeed, disturbance, pedestrianNeed, kindNeed, needAt}
+use Rattle.flows.specs.Needs.{table3, longestCycle, tramNeed, crossingSpeed, disturbance, pedestrianNeed, islandNeed, kindNeed, needAt}
 use Rattle.flows.specs.Saturation.{table1, listedFrom, straightFlow, turningFlow, baseFlow, gradientPercent, conditionsPercent, turnDivisor, saturationFlow, flowRatio}
 use Rattle.phase_lengths.specs.Phases.{phase, lost, ratioSum, lostTime, longEnough, firstLength}
 use Rattle.phase_greens.specs.Greens.{share, shares, sharing, carsBefore, extra, greenAt, startAt, firstBelowOne, givesGreens}
 
 unfoldable pub toTimes : Unit {0}
 unfolding firstBelow firstOf belowRoot rootBelow ratioRatio ratioRoot rootRatio rootAfter rootBefore rootRoot ratioWithin rootWithin within
-    carTime carLeaving stopLeaving tramLeaving leaving passing carReaching tramReaching countedReaching reaching leastGap entry
+    carTime carLeaving stopLeaving tramLeaving walkLeaving leaving passing carReaching tramReaching countedReaching walkReaching reaching leastGap entry
 toTimes = tt
 
 unfoldable pub toFlows : Unit {0}
-unfolding up table3 longestCycle tramNeed crossingSpeed disturbance pedestrianNeed kindNeed needAt
+unfolding up table3 longestCycle tramNeed crossingSpeed disturbance pedestrianNeed islandNeed kindNeed needAt
     table1 listedFrom straightFlow turningFlow baseFlow gradientPercent conditionsPercent turnDivisor saturationFlow flowRatio
 toFlows = tt
 

@@ -6,7 +6,7 @@ use mathlib.Core.List.{List, [], _∷_, map}
 use mathlib.Core.Path.{_≡_, refl}
 use Rattle.limits.specs.Limits.{mostBytes, mostStreams, mostZones, mostCounts, mostPhases, mostSeconds, leastFlow, greatestFlow}
 use Rattle.streams.specs.declared.Kind.{Kind}
-use Rattle.streams.specs.declared.Kind.the-variants.{Car, Tram, Pedestrian, Cyclist}
+use Rattle.streams.specs.declared.Kind.the-variants.{Car, Tram, Pedestrian, Cyclist, Island}
 use Rattle.streams.specs.declared.Stream.{Stream}
 use Rattle.times.specs.Entry.{entry}
 use Rattle.flows.specs.Needs.{needAt}
@@ -36,6 +36,19 @@ walker : ℕ → ℕ → Bool → Bool → Stream
 unfolding of
 walker crossing people counted disturbed =
     of (Pedestrian (record { speed = 12; crossing = crossing; hourly = people; counted = counted; disturbed = disturbed }))
+
+-- one over an island by crossing, people an hour, whether the crossing is disturbed, wider carriageway, island and packet
+overIsland : ℕ → ℕ → Bool → ℕ → ℕ → ℕ → Stream
+unfolding of
+overIsland crossing people disturbed wider island packet =
+    of
+    (Island
+    (record {
+      walk = record { speed = 15; crossing = crossing; hourly = people; counted = true; disturbed = disturbed };
+      wider = wider;
+      island = island;
+      packet = packet;
+    }))
 
 cyclist : Bool → Stream
 unfolding of
@@ -82,7 +95,7 @@ _is_ : ℕ → ℕ → Value
 v is w = record { value = v; byHand = w }
 
 unfoldable pub values : List Value
-unfolding _is_ of car tram walker cyclist clears after5 saturation wholeCase three
+unfolding _is_ of car tram walker overIsland cyclist clears after5 saturation wholeCase three
 values =
     -- (7): 3 + (140 + 60)/100 = 5, one decimetre more is above 5
     (clears (car 3 false 0) 140 is 5) ∷ (clears (car 3 false 0) 141 is 6) ∷
@@ -102,6 +115,8 @@ values =
     -- (12): 72/12 = 6; (12'): 1 + 40/40 = 2
     (clears (walker 70 200 false false) 72 is 6) ∷ (clears (walker 70 200 false false) 73 is 7) ∷
     (clears (cyclist false) 40 is 2) ∷ (clears (cyclist false) 41 is 3) ∷
+    -- (12) over an island, by the stream's own speed: 75/15 = 5
+    (clears (overIsland 70 200 false 60 20 40) 75 is 5) ∷ (clears (overIsland 70 200 false 60 20 40) 76 is 6) ∷
     -- (13): the root of 90/10, less 1, is 2; of 89/10 below it
     (after5 (car 3 false 0) 75 is 3) ∷ (after5 (car 3 false 0) 74 is 4) ∷
     -- (15): the root of 45/5 is 3
@@ -113,6 +128,7 @@ values =
     (entry (tram false 100) (car 3 true 0) 333 999 is 1) ∷
     -- (18): 15/15 = 1; (18'): 50/50 = 1; 0 where not counted (17, 17')
     (after5 (walker 70 200 true false) 15 is 4) ∷ (after5 (walker 70 200 true false) 14 is 5) ∷
+    (after5 (overIsland 70 200 false 60 20 40) 15 is 4) ∷ (after5 (overIsland 70 200 false 60 20 40) 14 is 5) ∷
     (after5 (cyclist true) 50 is 4) ∷ (after5 (cyclist true) 49 is 5) ∷ (after5 (cyclist false) 50 is 5) ∷
     -- needs: car 8, cyclist 6, tram 10 up to Table 3's 120 s, then 20
     (needAt 50 (car 3 false 0) is 8) ∷ (needAt 50 (cyclist false) is 6) ∷
@@ -123,6 +139,13 @@ values =
     (needAt 50 (walker 121 200 false false) is 8) ∷ (needAt 50 (walker 120 120 false false) is 8) ∷ (needAt 50 (walker 120 121 false false) is 10) ∷
     -- (40): 3 s more if disturbed; at least 6
     (needAt 50 (walker 120 200 false true) is 13) ∷ (needAt 50 (walker 10 200 false false) is 6) ∷
+    -- (39'): (60 + 20 + 40)/12 = 10, a decimetre more in any of the three is above it; by 12 also where the crossing is by 16
+    (needAt 50 (overIsland 70 200 false 60 20 40) is 10) ∷ (needAt 50 (overIsland 70 200 false 61 20 40) is 11) ∷
+    (needAt 50 (overIsland 70 200 false 60 21 40) is 11) ∷ (needAt 50 (overIsland 70 200 false 60 20 45) is 11) ∷
+    (needAt 50 (overIsland 70 100 false 61 20 40) is 11) ∷
+    -- 3 s more if disturbed; the crossing's 200/16 = 12.5 is the larger; at least 6; (600 + 600 + 200)/12 = 116.7, and 3
+    (needAt 50 (overIsland 70 200 true 60 20 40) is 13) ∷ (needAt 50 (overIsland 200 500 false 70 20 55) is 13) ∷
+    (needAt 50 (overIsland 10 200 false 10 10 20) is 6) ∷ (needAt 50 (overIsland 600 200 true 600 600 200) is 120) ∷
     -- (20): 21 × 541/4 = 2,840.25, and Table 1's last step
     (straightFlow 540 is 2700) ∷ (straightFlow 541 is 2840) ∷ (straightFlow 1500 is 7875) ∷
     -- (21): 7,200 × 30/181 = 1,193.3; (22): 12,000 × 30/181 = 1,988.9

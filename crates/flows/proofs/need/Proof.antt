@@ -20,8 +20,12 @@ returns-4 : tie.Need-returns-4
 unfolding needAt kindNeed
 returns-4 c = simp (c .enum-told2 .given .1)
 
+returns-5 : tie.Need-returns-5
+unfolding needAt kindNeed
+returns-5 c = simp (c .before .before .kind3 .given .1) (c .island-need .ensures)
+
 pub need-spec : {M : Type 1} → statement M
 need-spec =
     tie.close
     (tie.spec (λ c. search needs) (λ c. search needs) (λ c κs. search needs) (λ c. search needs) (λ c κs. search needs)
-    (λ c. search needs) returns returns-2 returns-3 returns-4)
+    (λ c. search needs) (λ c. search needs) (λ c κs. search needs) returns returns-2 returns-3 returns-4 returns-5)

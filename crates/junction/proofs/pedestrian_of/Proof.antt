@@ -1,4 +1,4 @@
--- `junction::pedestrian_of` meets its contract: each figure is read at its place.
+-- `junction::pedestrian_of` meets its contract: the figures are those read.
 use borrow.Author.Needs.{needs}
 use Rattle.junction.specs.Layout.{pedestrianOf}
 use Rattle.junction.proofs.pedestrian_of.Statement.{statement}
@@ -6,17 +6,8 @@ use Rattle.junction.proofs.pedestrian_of.Tie as tie
 
 returns : tie.Need-returns
 unfolding pedestrianOf
-returns c =
-    simp (
-      c .byte3 .ensures,
-      c .before .byte2 .ensures,
-      c .before .before .number2 .ensures,
-      c .before .before .before .number .ensures,
-      c .before .before .before .before .byte .ensures,
-    )
+returns c = simp (c .walk-of .ensures)
 
 pub pedestrian-of-spec : {M : Type 1} → statement M
-pedestrian-of-spec =
-    tie.close
-    (tie.spec (λ c κs. search needs) (λ c κs. search needs) (λ c κs. search needs) (λ c κs. search needs) (λ c κs. search needs)
-    returns)
+pedestrian-of-spec = tie.close
+    (tie.spec (λ c κs. search needs) returns)

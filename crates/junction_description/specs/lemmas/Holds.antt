@@ -14,7 +14,7 @@ use Rattle.laws.specs.Tests.{by-test, both, both-left, both-right}
 use Rattle.fields.specs.Bytes.{byteAt}
 use Rattle.streams.specs.declared.Stream.{Stream}
 use Rattle.junction.specs.declared.Junction.{Junction}
-use Rattle.junction.specs.Layout.{designDay, kindOf, carOf, tramOf, pedestrianOf, cyclistOf, streamOf, countOf}
+use Rattle.junction.specs.Layout.{designDay, kindOf, carOf, tramOf, pedestrianOf, cyclistOf, islandOf, streamOf, countOf}
 use Rattle.limits.specs.Limits.{mostStreams, mostCounts}
 use Rattle.junction_places.specs.Blank.{noStream, noCount, blank}
 use Rattle.junction_questions.specs.Questions.{zoneRefers, carRefers, countRefers}
@@ -132,14 +132,15 @@ module _ (s : List ℕ) where
 
 -- a stream is a car exactly where its kind is 1
 pub kind-car : (b : List ℕ) → (isCar (kindOf b) ≡ true) ↔ (byteAt b 0 ≡ 1)
-unfolding kindOf carOf tramOf pedestrianOf cyclistOf
+unfolding kindOf carOf tramOf pedestrianOf cyclistOf islandOf
 kind-car b =
     by-test (eqb (byteAt b 0) 1) (λ e. rw e (λ t. eqb-true _ _ e, λ k. refl))
     (λ n1. let other = eqb-false (byteAt b 0) 1 n1 in
     by-test (eqb (byteAt b 0) 2) (λ e. rw (n1, e) (λ t. absurd (false≢true t), λ k. absurd (other k)))
     (λ n2. by-test (eqb (byteAt b 0) 3) (λ e. rw (n1, n2, e) (λ t. absurd (false≢true t), λ k. absurd (other k)))
     (λ n3. by-test (eqb (byteAt b 0) 4) (λ e. rw (n1, n2, n3, e) (λ t. absurd (false≢true t), λ k. absurd (other k)))
-    (λ n4. rw (n1, n2, n3, n4) (λ t. absurd (false≢true t), λ k. absurd (other k))))))
+    (λ n4. by-test (eqb (byteAt b 0) 5) (λ e. rw (n1, n2, n3, n4, e) (λ t. absurd (false≢true t), λ k. absurd (other k)))
+    (λ n5. rw (n1, n2, n3, n4, n5) (λ t. absurd (false≢true t), λ k. absurd (other k)))))))
 
 module _ (s : List ℕ) (j : Junction) (streams zones counts : ℕ) (r : Holds s j streams zones counts) where
   stream-is : (n : ℕ) → Between 1 streams n → streamNumbered j n ≡ streamOf (body s n)

@@ -17,8 +17,11 @@ returns-3 c = sym (ap kindSaturation (c .enum-told2 .given .1))
 returns-4 : tie.Need-returns-4
 returns-4 c = sym (ap kindSaturation (c .enum-told3 .given .1))
 
+returns-5 : tie.Need-returns-5
+returns-5 c = sym (ap kindSaturation (c .enum-told4 .given .1))
+
 pub saturation-spec : {M : Type 1} → statement M
 saturation-spec =
     tie.close
-    (tie.spec (λ c. search needs) (λ c κs. search needs) (λ c. search needs) (λ c. search needs) (λ c. search needs) returns
-    returns-2 returns-3 returns-4)
+    (tie.spec (λ c. search needs) (λ c κs. search needs) (λ c. search needs) (λ c. search needs) (λ c. search needs)
+    (λ c. search needs) returns returns-2 returns-3 returns-4 returns-5)

@@ -13,7 +13,7 @@ use borrow.Author.Tests.{leb-true, leb-false, ltb-true, ltb-false, eqb-true, eqb
 use Rattle.laws.specs.Ranges.{Between, everyOf, every-at}
 use Rattle.laws.specs.Search.{firstBelow, first-range, first-passes, first-fails}
 use Rattle.laws.specs.Tests.{by-test, either}
-use Rattle.limits.specs.Limits.{mostBytes}
+use Rattle.limits.specs.Limits.{mostBytes, mostPhases}
 use Rattle.fields.specs.Bytes.{byteAt, numberAt, byteIn, numberIn, fieldEnd}
 use Rattle.fields.specs.Verdict.{isRefused, ask-passed}
 use Rattle.fields.specs.declared.Verdict.the-variants.{Passed}
@@ -22,8 +22,8 @@ use Rattle.junction.specs.declared.Junction.{Junction}
 use Rattle.junction.specs.declared.Reading.{Reading}
 use Rattle.junction.specs.declared.Side.{Side}
 use Rattle.junction.specs.declared.Zone.{Zone}
-use Rattle.junction.specs.Layout.{radiusInRange, sharesInRange, carInRange, carOf, tramInRange, tramOf, pedestrianInRange, pedestrianOf}
-use Rattle.junction.specs.Layout.{cyclistInRange, cyclistOf, streamInRange, kindOf, streamOf, zoneInRange, zoneOf, countInRange, countOf}
+use Rattle.junction.specs.Layout.{radiusInRange, sharesInRange, carInRange, carOf, tramInRange, tramOf, pedestrianInRange, walkOf, pedestrianOf}
+use Rattle.junction.specs.Layout.{cyclistInRange, cyclistOf, islandInRange, islandOf, streamInRange, kindOf, streamOf, zoneInRange, zoneOf, countInRange, countOf}
 use Rattle.junction_places.specs.Blank.{noStream, noZone, noCount, blank}
 use Rattle.junction_questions.specs.lemmas.Passed.{BodyPassed, field-passed}
 use Rattle.junction_questions.specs.Questions.{inRange, withinLimit, refers, zoneRefers, carRefers, namedBy, fieldVerdict}
@@ -34,7 +34,7 @@ use Rattle.junction_places.specs.Ranks.{newestRank}
 use Rattle.junction_file.specs.Chosen.{chosen}
 use Rattle.junction_file.specs.Reading.{withHeading, withStream, withZone, withCount, withField, afterField, readField, atEnd, readFrom, reading}
 use Rattle.junction_file.specs.lemmas.Rest.{passed-field}
-use Rattle.junction_file.specs.Taken.{StreamInRange, SideRight, ZoneRight, CountRight, FieldsRight, UsedPhase, PhasesRight, HasCar, HasFlow}
+use Rattle.junction_file.specs.Taken.{PedestrianRanges, StreamInRange, SideRight, ZoneRight, CountRight, FieldsRight, UsedPhase, PhasesRight, HasCar, HasFlow}
 
 -- question 5 of a stream: a body in range gives figures in range
 car-ranges : (b : List ℕ) → carInRange b ≡ true → StreamInRange (record { phase = byteAt b 1; kind = carOf b })
@@ -62,13 +62,34 @@ tram-ranges : (b : List ℕ) → tramInRange b ≡ true → StreamInRange (recor
 unfolding tramInRange tramOf byteIn numberIn
 tram-ranges b h = let facts = simp and-eq-true-iff at h in omega (arith, leb-true)
 
+walk-ranges : (b : List ℕ) → pedestrianInRange b ≡ true → Between 1 mostPhases (byteAt b 1) × PedestrianRanges (walkOf b)
+unfolding pedestrianInRange walkOf byteIn numberIn
+walk-ranges b h = let facts = simp and-eq-true-iff at h in omega (arith, leb-true)
+
 pedestrian-ranges : (b : List ℕ) → pedestrianInRange b ≡ true → StreamInRange (record { phase = byteAt b 1; kind = pedestrianOf b })
-unfolding pedestrianInRange pedestrianOf byteIn numberIn
-pedestrian-ranges b h = let facts = simp and-eq-true-iff at h in omega (arith, leb-true)
+unfolding pedestrianOf
+pedestrian-ranges b h = let walk = walk-ranges b h in record { phase = walk .0; figures = walk .1 }
 
 cyclist-ranges : (b : List ℕ) → cyclistInRange b ≡ true → StreamInRange (record { phase = byteAt b 1; kind = cyclistOf b })
 unfolding cyclistInRange cyclistOf byteIn
 cyclist-ranges b h = let facts = simp and-eq-true-iff at h in omega (arith, leb-true)
+
+island-ranges : (b : List ℕ) → islandInRange b ≡ true → StreamInRange (record { phase = byteAt b 1; kind = islandOf b })
+unfolding islandInRange islandOf numberIn
+island-ranges b h =
+    let facts = simp and-eq-true-iff at h in
+    let walk = walk-ranges b (facts .0 .0 .0 .0) in
+    record {
+      phase = walk .0;
+      figures =
+          record {
+            walk = walk .1;
+            wider = omega (arith, leb-true);
+            island = omega (arith, leb-true);
+            packet = omega (arith, leb-true);
+            fives = eqb-true _ _ (facts .1);
+          };
+    }
 
 stream-ranges : (b : List ℕ) → streamInRange b ≡ true → StreamInRange (streamOf b)
 unfolding streamInRange streamOf kindOf
@@ -77,7 +98,8 @@ stream-ranges b h =
     (λ n1. by-test (eqb (byteAt b 0) 2) (λ e. rw (n1, e) (tram-ranges b (rw (n1, e) at h)))
     (λ n2. by-test (eqb (byteAt b 0) 3) (λ e. rw (n1, n2, e) (pedestrian-ranges b (rw (n1, n2, e) at h)))
     (λ n3. by-test (eqb (byteAt b 0) 4) (λ e. rw (n1, n2, n3, e) (cyclist-ranges b (rw (n1, n2, n3, e) at h)))
-    (λ n4. absurd (false≢true (rw (n1, n2, n3, n4) at h))))))
+    (λ n4. by-test (eqb (byteAt b 0) 5) (λ e. rw (n1, n2, n3, n4, e) (island-ranges b (rw (n1, n2, n3, n4, e) at h)))
+    (λ n5. absurd (false≢true (rw (n1, n2, n3, n4, n5) at h)))))))
 
 -- questions 5 and 7 of a zone and of a count
 zone-right : (b : List ℕ) (j : Junction) → zoneInRange b ≡ true

@@ -11,7 +11,7 @@ use Rattle.laws.specs.Sums.{sum-part}
 use Rattle.laws.specs.Tests.{by-test, both}
 use Rattle.streams.specs.declared.CarFigures.{CarFigures}
 use Rattle.streams.specs.declared.Kind.{Kind}
-use Rattle.streams.specs.declared.Kind.the-variants.{Car, Tram, Pedestrian, Cyclist}
+use Rattle.streams.specs.declared.Kind.the-variants.{Car, Tram, Pedestrian, Cyclist, Island}
 use Rattle.junction.specs.declared.Junction.{Junction}
 use Rattle.junction_places.specs.Places.{streamAt, streamNumbered, numbered-at}
 use Rattle.streams.specs.Kinds.{isCar}
@@ -30,6 +30,7 @@ car-figures (Car c) e = (c, refl)
 car-figures (Tram t) e = absurd (false≢true e)
 car-figures (Pedestrian p) e = absurd (false≢true e)
 car-figures (Cyclist y) e = absurd (false≢true e)
+car-figures (Island i) e = absurd (false≢true e)
 
 module _ (j : Junction) where
   -- a phase without cars has y 0
