@@ -1,6 +1,7 @@
 //! "Needs and flows": Table 1, Table 3, the needed greens, base flow, S and y.
 
-use crate::junction::{Car, Kind, Pedestrian};
+use crate::exact::{fraction, whole, Fraction};
+use crate::junction::{Car, IslandCrossing, Kind, Pedestrian};
 
 /// Table 1 of the annex: width in cm, base flow in E/h.
 pub const TABLE_1: [(u16, i64); 12] = [
@@ -38,17 +39,26 @@ pub fn need(kind: &Kind, cycle: i64) -> i64 {
         Kind::Car(_) => 8,
         Kind::Tram(t) => if cycle <= table_3(t.trams_an_hour) { 10 } else { 20 },
         Kind::Cyclist(_) => 6,
-        Kind::Pedestrian(p) => pedestrian_need(p),
+        Kind::Pedestrian(p) => walking_need(crossing_quotient(p), p.disturbed),
+        Kind::Island(i) => walking_need(packet_quotient(i).max(crossing_quotient(&i.walk)), i.walk.disturbed),
     }
 }
 
-/// V/12, or V/16 if V is above 120 or people an hour are at most 120; plus 3 if disturbed; rounded up; at least 6.
-/// Rounding up after adding a whole 3 is the same as before it.
-pub fn pedestrian_need(p: &Pedestrian) -> i64 {
-    let v = p.crossing as i64;
-    let speed = if v > 120 || p.people <= 120 { 16 } else { 12 };
-    let seconds = up(v, speed) + if p.disturbed { 3 } else { 0 };
-    seconds.max(6)
+/// Kind 3's quotient, crossing V: V/12, or V/16 if V is above 120 or people an hour are at most 120.
+pub fn crossing_quotient(p: &Pedestrian) -> Fraction {
+    let v = p.crossing as i128;
+    fraction(v, if v > 120 || p.people <= 120 { 16 } else { 12 })
+}
+
+/// (39'): (B + u + P)/12.
+pub fn packet_quotient(i: &IslandCrossing) -> Fraction {
+    fraction(i.wider_carriageway as i128 + i.island as i128 + i.packet as i128, 12)
+}
+
+/// The need of people on foot: the quotient, plus 3 if disturbed; rounded up; at least 6.
+fn walking_need(quotient: Fraction, disturbed: bool) -> i64 {
+    let seconds = quotient + whole(if disturbed { 3 } else { 0 });
+    seconds.up().max(6) as i64
 }
 
 /// Base flow, rounded down.

@@ -25,6 +25,13 @@ pub fn whole(n: i128) -> Fraction {
     fraction(n, 1)
 }
 
+impl Fraction {
+    /// Rounded up: the least whole number that is not below it.
+    pub fn up(self) -> i128 {
+        -(-self.upper).div_euclid(self.lower)
+    }
+}
+
 impl Add for Fraction {
     type Output = Fraction;
     fn add(self, o: Fraction) -> Fraction {

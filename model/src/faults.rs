@@ -1,6 +1,6 @@
 //! Random files that are refused, or nearly: damaged, spliced, with numbers at and past their limits.
 
-use crate::generate::{limit_junction, rich_junction};
+use crate::generate::{limit_junction, random_island, rich_junction};
 use crate::junction::*;
 use crate::random::Random;
 use std::ops::Range;
@@ -13,7 +13,7 @@ pub fn damaged(r: &mut Random, file: &[u8]) -> Vec<u8> {
             break;
         }
         let at = r.from_to(0, file.len() as i64 - 1) as usize;
-        let byte = if r.one_in(2) { r.pick(&[0, 1, 2, 3, 4, 5, 0x11, 0x12, 0x13, 127, 128, 255]) } else { r.from_to(0, 255) as u8 };
+        let byte = if r.one_in(2) { r.pick(&[0, 1, 2, 3, 4, 5, 6, 0x11, 0x12, 0x13, 127, 128, 255]) } else { r.from_to(0, 255) as u8 };
         match r.from_to(1, 8) {
             1..=3 => file[at] = byte,
             4 => file[at] = file[at].wrapping_add(1),
@@ -64,11 +64,10 @@ pub fn faulty(r: &mut Random, file: &[u8], other: &[u8]) -> Vec<u8> {
         5 => {
             // a body one byte or some longer or shorter, and its length with it
             let mut body = file[one.clone()].iter().skip(3).copied().collect::<Vec<u8>>();
-            let size = (body.len() as i64 + r.pick(&[-9, -3, -2, -1, -1, 1, 1, 2, 3, 250])).max(0);
+            let size = (body.len() as i64 + r.pick(&[-9, -6, -3, -2, -1, -1, 1, 1, 2, 3, 6, 250])).max(0);
             body.resize(size as usize, r.from_to(0, 255) as u8);
-            let mut field = vec![file[one.start]];
-            field.extend((size as u16).to_be_bytes());
-            field.extend(body);
+            let mut field = vec![];
+            put_field(&mut field, file[one.start], &body);
             out.splice(one, field);
         }
         6 => out[one.start] = r.pick(&[0, 1, 2, 3, 4, 6, 0x10, 0x11, 0x12, 0x13, 0x81, 255]),
@@ -105,12 +104,34 @@ fn wrong_length(r: &mut Random, file: &mut [u8], at: usize) {
     }
 }
 
-/// The numbers of a field: offset in the body, bytes, least, greatest.
-fn numbers(tag: u8, body: &[u8]) -> &'static [(usize, usize, u16, u16)] {
-    match (tag, body.first()) {
-        (1, _) => &[(0, 2, 0, 65_535), (2, 2, 0, 65_535)],
-        (2, Some(1)) => &[
-            (0, 1, 1, 4),
+/// A number of a field: offset in the body, bytes, least, greatest.
+type Number = (usize, usize, u16, u16);
+
+/// The numbers of a field.
+fn numbers(tag: u8, body: &[u8]) -> &'static [Number] {
+    match tag {
+        1 => &[(0, 2, 0, 65_535), (2, 2, 0, 65_535)],
+        2 => body.first().map_or(&[], |&kind| stream_numbers(kind)),
+        3 => &[
+            (0, 1, 1, 16),
+            (1, 1, 1, 16),
+            (2, 2, 0, 999),
+            (4, 2, 0, 999),
+            (6, 2, 0, 999),
+            (8, 2, 0, 999),
+        ],
+        4 => &[(0, 1, 1, 16), (1, 2, 0, 65_535), (3, 2, 0, 65_535), (5, 2, 1, 9_999)],
+        0x11 => &[(0, 2, 1, 180)],
+        0x12 => &[(0, 1, 1, 16), (1, 2, 0, 179), (3, 2, 1, 180)],
+        _ => &[],
+    }
+}
+
+/// The numbers of a stream, by its kind.
+fn stream_numbers(kind: u8) -> &'static [Number] {
+    match kind {
+        1 => &[
+            (0, 1, 1, 5),
             (1, 1, 1, 6),
             (2, 1, 3, 5),
             (3, 1, 0, 1),
@@ -123,31 +144,27 @@ fn numbers(tag: u8, body: &[u8]) -> &'static [(usize, usize, u16, u16)] {
             (11, 1, 0, 100),
             (12, 1, 0, 100),
         ],
-        (2, Some(2)) => &[(0, 1, 1, 4), (1, 1, 1, 6), (2, 1, 0, 1), (3, 2, 100, 600), (5, 1, 1, 34)],
-        (2, Some(3)) => &[
-            (0, 1, 1, 4),
-            (1, 1, 1, 6),
-            (2, 1, 12, 15),
-            (3, 2, 10, 600),
-            (5, 2, 0, 9_999),
-            (7, 1, 0, 1),
-            (8, 1, 0, 1),
-        ],
-        (2, Some(4)) => &[(0, 1, 1, 4), (1, 1, 1, 6), (2, 1, 0, 1)],
-        (3, _) => &[
-            (0, 1, 1, 16),
-            (1, 1, 1, 16),
-            (2, 2, 0, 999),
-            (4, 2, 0, 999),
-            (6, 2, 0, 999),
-            (8, 2, 0, 999),
-        ],
-        (4, _) => &[(0, 1, 1, 16), (1, 2, 0, 65_535), (3, 2, 0, 65_535), (5, 2, 1, 9_999)],
-        (0x11, _) => &[(0, 2, 1, 180)],
-        (0x12, _) => &[(0, 1, 1, 16), (1, 2, 0, 179), (3, 2, 1, 180)],
-        _ => &[],
+        2 => &[(0, 1, 1, 5), (1, 1, 1, 6), (2, 1, 0, 1), (3, 2, 100, 600), (5, 1, 1, 34)],
+        3 => &ISLAND_NUMBERS[..7],
+        4 => &[(0, 1, 1, 5), (1, 1, 1, 6), (2, 1, 0, 1)],
+        5 => &ISLAND_NUMBERS,
+        0 | 6..=255 => &[],
     }
 }
+
+/// The numbers of kind 5; the first seven are those of kind 3.
+const ISLAND_NUMBERS: [Number; 10] = [
+    (0, 1, 1, 5),
+    (1, 1, 1, 6),
+    (2, 1, 12, 15),
+    (3, 2, 10, 600),
+    (5, 2, 0, 9_999),
+    (7, 1, 0, 1),
+    (8, 1, 0, 1),
+    (9, 2, 10, 600),
+    (11, 2, 10, 600),
+    (13, 2, 20, 200),
+];
 
 /// One number of this field at its least or greatest; and, where `past` says so, often just past it or anything.
 fn set_number(r: &mut Random, file: &mut [u8], field: Range<usize>, past: bool) {
@@ -220,6 +237,14 @@ pub fn aimed_at(r: &mut Random, number: u8) -> Vec<u8> {
     let file = j.to_file();
     let other = rich_junction(r).to_file();
     match number {
+        4 if r.one_in(4) => {
+            let body = island_of_another_length(r);
+            with_stream(r, &file, &body).0
+        }
+        5 if r.one_in(4) => {
+            let body = if r.one_in(3) { stream_of_unknown_kind(r) } else { island_out_of_range(r) };
+            with_stream(r, &file, &body).0
+        }
         2..=5 => faulty(r, &file, &other),
         8 if r.one_in(20) => file[..r.pick(&[0, 7])].to_vec(),
         _ => file,
@@ -355,4 +380,53 @@ fn no_usable_count(r: &mut Random, j: &mut Junction) {
             j.counts.retain(|c| c.stream != car);
         }
     }
+}
+
+// ---- streams that are refused for their kind, or for what a crossing with an island has of its own
+
+/// The body of a crossing with an island, in phase 1.
+fn island_body(r: &mut Random) -> Vec<u8> {
+    Stream { phase: 1, kind: Kind::Island(random_island(r)) }.body()
+}
+
+/// Kind 5 with the length of another kind, or one byte or some beside 15: question 4.
+pub fn island_of_another_length(r: &mut Random) -> Vec<u8> {
+    let mut body = island_body(r);
+    let length = r.pick(&[1, 2, 3, 6, 9, 9, 13, 13, 14, 14, 16, 16, 17, 15 + 256]);
+    body.resize(length, r.from_to(0, 255) as u8);
+    body
+}
+
+/// An unknown kind, with the length of a known one or any other: question 5.
+pub fn stream_of_unknown_kind(r: &mut Random) -> Vec<u8> {
+    let mut body = island_body(r);
+    body[0] = if r.one_in(2) { r.pick(&[0, 6]) } else { r.from_to(6, 255) as u8 };
+    body.resize(r.pick(&[1, 2, 3, 6, 9, 13, 14, 15, 15, 16, 300]), 0);
+    body
+}
+
+/// Kind 5 with a wider carriageway, an island or a packet below or above its range, or a packet that is no multiple of 5:
+/// question 5.
+pub fn island_out_of_range(r: &mut Random) -> Vec<u8> {
+    let mut body = island_body(r);
+    let width = r.pick(&[0, 5, 9, 601, 605, 778, 65_535]);
+    let (at, number) = match r.from_to(1, 4) {
+        1 => (9, width),
+        2 => (11, width),
+        3 => (13, r.pick(&[0, 10, 15, 19, 201, 205, 280, 65_535])),
+        _ => (13, (5 * r.from_to(4, 39) + r.from_to(1, 4)) as u16),
+    };
+    body[at..at + 2].copy_from_slice(&number.to_be_bytes());
+    body
+}
+
+/// The junction file with this body in the place of one of its streams', and the place of that stream.
+pub fn with_stream(r: &mut Random, file: &[u8], body: &[u8]) -> (Vec<u8>, usize) {
+    let streams: Vec<Range<usize>> = fields(file).into_iter().filter(|f| file[f.start] == 2).collect();
+    let one = streams[r.from_to(0, streams.len() as i64 - 1) as usize].clone();
+    let (mut out, place) = (file.to_vec(), one.start);
+    let mut field = vec![];
+    put_field(&mut field, 2, body);
+    out.splice(one, field);
+    (out, place)
 }

@@ -1,6 +1,7 @@
 //! Random junctions that are taken, and random plans for them that are well-formed.
 
-use crate::annex::{need, saturation};
+use crate::annex::{crossing_quotient, need, saturation};
+use crate::exact::whole;
 use crate::junction::*;
 use crate::plan::{Green, Plan};
 use crate::random::Random;
@@ -90,7 +91,7 @@ pub fn make_junction(r: &mut Random, phases: i64, streams: i64, zones: i64, coun
 }
 
 fn random_kind(r: &mut Random, roots: bool, must_be_car: bool) -> Kind {
-    let which = if must_be_car { 1 } else if roots { r.pick(&[1, 2, 2]) } else { r.pick(&[1, 1, 2, 3, 3, 4]) };
+    let which = if must_be_car { 1 } else if roots { r.pick(&[1, 2, 2]) } else { r.pick(&[1, 1, 1, 2, 3, 3, 4, 5, 5]) };
     match which {
         1 => {
             let radius = if r.one_in(3) { r.pick(&[30, 60, 61, 100, 149, 150, 151, 152, 400, 9999]) } else { 0 };
@@ -119,15 +120,37 @@ fn random_kind(r: &mut Random, roots: bool, must_be_car: bool) -> Kind {
             length: if r.one_in(2) { r.pick(&[100, 300, 325, 600]) } else { r.from_to(100, 600) as u16 },
             trams_an_hour: r.from_to(1, 34) as u8,
         }),
-        3 => Kind::Pedestrian(Pedestrian {
-            speed: r.from_to(12, 15) as u8,
-            crossing: if r.one_in(3) { r.pick(&[10, 119, 120, 121, 600]) } else { r.from_to(10, 250) as u16 },
-            people: r.pick(&[0, 119, 120, 121, 200, 9999]),
-            reach_counted: r.one_in(2),
-            disturbed: r.one_in(3),
-        }),
-        _ => Kind::Cyclist(Cyclist { reach_counted: r.one_in(2) }),
+        3 => Kind::Pedestrian(random_pedestrian(r)),
+        4 => Kind::Cyclist(Cyclist { reach_counted: r.one_in(2) }),
+        5 => Kind::Island(random_island(r)),
+        other => unreachable!("kind {other}"),
     }
+}
+
+fn random_pedestrian(r: &mut Random) -> Pedestrian {
+    Pedestrian {
+        speed: r.from_to(12, 15) as u8,
+        crossing: if r.one_in(3) { r.pick(&[10, 119, 120, 121, 600]) } else { r.from_to(10, 250) as u16 },
+        people: r.pick(&[0, 119, 120, 121, 200, 9999]),
+        reach_counted: r.one_in(2),
+        disturbed: r.one_in(3),
+    }
+}
+
+/// Often such that (B + u + P)/12 is a whole second or as long as the crossing's quotient, or one decimetre beside that.
+pub fn random_island(r: &mut Random) -> IslandCrossing {
+    let walk = random_pedestrian(r);
+    let packet = 5 * if r.one_in(10) { r.pick(&[4, 5, 39, 40]) } else { r.from_to(4, 10) };
+    let island = if r.one_in(10) { r.pick(&[10, 11, 599, 600]) } else { r.from_to(10, 30) };
+    let beside = r.pick(&[0, 0, -1, 1]);
+    let wider_carriageway = match r.from_to(1, 10) {
+        1 => r.pick(&[10, 11, 599, 600]),
+        2..=4 => 12 * r.from_to(4, 16) + beside - island - packet,
+        5 | 6 => (whole(12) * crossing_quotient(&walk)).up() as i64 + beside - island - packet,
+        _ => r.from_to(10, 90),
+    };
+    let wider_carriageway = wider_carriageway.clamp(10, 600) as u16;
+    IslandCrossing { walk, wider_carriageway, island: island as u16, packet: packet as u16 }
 }
 
 /// Clearing distance of the one that leaves, reaching distance of the one that comes: often such that a time is a
@@ -143,7 +166,7 @@ fn distances(r: &mut Random, leaves: &Kind, comes: &Kind, scale: i64) -> (u16, u
             Kind::Car(_) => 50 * k + 40,
             Kind::Tram(t) if t.from_stop => 5 * k * k - t.length as i64,
             Kind::Tram(_) => l,
-            Kind::Pedestrian(p) => p.speed as i64 * k,
+            Kind::Pedestrian(p) | Kind::Island(IslandCrossing { walk: p, .. }) => p.speed as i64 * k,
             Kind::Cyclist(_) => 40 * k,
         } + r.pick(&[0, 0, -1, 1]);
     }
@@ -156,9 +179,9 @@ fn distances(r: &mut Random, leaves: &Kind, comes: &Kind, scale: i64) -> (u16, u
             (Kind::Tram(t), Kind::Tram(u)) if t.from_stop && u.from_stop && r.one_in(3) => l + t.length as i64 - 15,
             (_, Kind::Car(c)) if !c.flying => 10 * k * k - 15,
             (_, Kind::Tram(t)) if t.from_stop => 5 * k * k - 15,
-            (_, Kind::Pedestrian(_)) => 15 * k,
+            (_, Kind::Car(_) | Kind::Tram(_)) => d,
+            (_, Kind::Pedestrian(_) | Kind::Island(_)) => 15 * k,
             (_, Kind::Cyclist(_)) => 50 * k,
-            _ => d,
         } + r.pick(&[0, 0, -1, 1]);
     }
     (l as u16, d.clamp(0, 999) as u16)

@@ -49,6 +49,6 @@ pub fn has_capacity(junction: &Junction, plan: &Plan, stream: usize) -> bool {
             let flow = junction.flow(stream).expect("question 9") as i64;
             flow * plan.cycle as i64 <= saturation(car) * (plan.green(stream).length as i64 + 1)
         }
-        _ => true,
+        Kind::Tram(_) | Kind::Pedestrian(_) | Kind::Cyclist(_) | Kind::Island(_) => true,
     }
 }

@@ -22,13 +22,15 @@ pub struct Stream {
     pub kind: Kind,
 }
 
-/// A stream holds one of four kinds, each with figures of its own.
+/// A stream holds one of five kinds, each with figures of its own.
 #[derive(Clone, Copy, PartialEq, Eq, Debug)]
 pub enum Kind {
     Car(Car),
     Tram(Tram),
     Pedestrian(Pedestrian),
     Cyclist(Cyclist),
+    /// Kind 5, of request 2026-01.
+    Island(IslandCrossing),
 }
 
 #[derive(Clone, Copy, PartialEq, Eq, Debug)]
@@ -71,6 +73,18 @@ pub struct Cyclist {
     pub reach_counted: bool,
 }
 
+/// A crossing with an island, crossed in one go: a pedestrian in all but the need.
+#[derive(Clone, Copy, PartialEq, Eq, Debug)]
+pub struct IslandCrossing {
+    pub walk: Pedestrian,
+    /// B, dm
+    pub wider_carriageway: u16,
+    /// u, dm
+    pub island: u16,
+    /// P, dm
+    pub packet: u16,
+}
+
 /// Streams are numbered from 1; the first is `a`, the second `b`.
 #[derive(Clone, Copy, PartialEq, Eq, Debug)]
 pub struct Zone {
@@ -110,6 +124,14 @@ impl Junction {
 impl Stream {
     pub fn is_car(&self) -> bool {
         matches!(self.kind, Kind::Car(_))
+    }
+
+    /// Is it a pedestrian or a tram? An island counts as a pedestrian.
+    pub fn is_pedestrian_or_tram(&self) -> bool {
+        match self.kind {
+            Kind::Tram(_) | Kind::Pedestrian(_) | Kind::Island(_) => true,
+            Kind::Car(_) | Kind::Cyclist(_) => false,
+        }
     }
 }
 
@@ -256,7 +278,8 @@ fn read_stream(body: &[u8]) -> Result<Stream, u8> {
         2 => 6,
         3 => 9,
         4 => 3,
-        _ => return Err(5),
+        5 => 15,
+        0 | 6..=255 => return Err(5),
     };
     if body.len() != right_length {
         return Err(4);
@@ -299,29 +322,53 @@ fn read_stream(body: &[u8]) -> Result<Stream, u8> {
             range(trams as u16, 1, 34);
             Kind::Tram(Tram { from_stop: stop == 1, length, trams_an_hour: trams })
         }
-        3 => {
-            let (speed, crossing, people, reach, disturbed) = (body[2], two(body, 3), two(body, 5), body[7], body[8]);
-            range(speed as u16, 12, 15);
-            range(crossing, 10, 600);
-            range(people, 0, 9_999);
-            range(reach as u16, 0, 1);
-            range(disturbed as u16, 0, 1);
-            Kind::Pedestrian(Pedestrian { speed, crossing, people, reach_counted: reach == 1, disturbed: disturbed == 1 })
-        }
-        _ => {
+        3 => Kind::Pedestrian(read_pedestrian(body, &mut range)),
+        4 => {
             range(body[2] as u16, 0, 1);
             Kind::Cyclist(Cyclist { reach_counted: body[2] == 1 })
         }
+        5 => {
+            let walk = read_pedestrian(body, &mut range);
+            let (wider_carriageway, island, packet) = (two(body, 9), two(body, 11), two(body, 13));
+            range(wider_carriageway, 10, 600);
+            range(island, 10, 600);
+            range(packet, 20, 200);
+            range(packet % 5, 0, 0);
+            Kind::Island(IslandCrossing { walk, wider_carriageway, island, packet })
+        }
+        0 | 6..=255 => unreachable!("an unknown kind has no right length"),
     };
     if good { Ok(Stream { phase, kind }) } else { Err(5) }
 }
 
+/// The figures of kind 3, with which the body of kind 5 begins too.
+fn read_pedestrian(body: &[u8], range: &mut impl FnMut(u16, u16, u16)) -> Pedestrian {
+    let (speed, crossing, people, reach, disturbed) = (body[2], two(body, 3), two(body, 5), body[7], body[8]);
+    range(speed as u16, 12, 15);
+    range(crossing, 10, 600);
+    range(people, 0, 9_999);
+    range(reach as u16, 0, 1);
+    range(disturbed as u16, 0, 1);
+    Pedestrian { speed, crossing, people, reach_counted: reach == 1, disturbed: disturbed == 1 }
+}
+
 // Writing, for the tests and the case files.
 
-fn put_field(file: &mut Vec<u8>, tag: u8, body: &[u8]) {
+pub(crate) fn put_field(file: &mut Vec<u8>, tag: u8, body: &[u8]) {
     file.push(tag);
     file.extend_from_slice(&(body.len() as u16).to_be_bytes());
     file.extend_from_slice(body);
+}
+
+impl Pedestrian {
+    /// The figures after kind and phase, as kinds 3 and 5 have them.
+    fn figures(&self) -> Vec<u8> {
+        let mut b = vec![self.speed];
+        b.extend(self.crossing.to_be_bytes());
+        b.extend(self.people.to_be_bytes());
+        b.extend([self.reach_counted as u8, self.disturbed as u8]);
+        b
+    }
 }
 
 impl Stream {
@@ -343,14 +390,18 @@ impl Stream {
             }
             Kind::Pedestrian(p) => {
                 b[0] = 3;
-                b.push(p.speed);
-                b.extend(p.crossing.to_be_bytes());
-                b.extend(p.people.to_be_bytes());
-                b.extend([p.reach_counted as u8, p.disturbed as u8]);
+                b.extend(p.figures());
             }
             Kind::Cyclist(c) => {
                 b[0] = 4;
                 b.push(c.reach_counted as u8);
+            }
+            Kind::Island(i) => {
+                b[0] = 5;
+                b.extend(i.walk.figures());
+                for number in [i.wider_carriageway, i.island, i.packet] {
+                    b.extend(number.to_be_bytes());
+                }
             }
         }
         b

@@ -1,4 +1,5 @@
-//! A second implementation of document 01 ("Junction timing by the annex of RD-02-21-2"), written apart from the first.
+//! A second implementation of document 01 ("Junction timing by the annex of RD-02-21-2"), with request 2026-01 of document 02
+//! (crossings with an island), written apart from the first.
 //!
 //! It is written by the most direct reading and not for speed, so that it can be read beside the paper:
 //! - `exact`:    seconds as fractions and roots, compared exactly;

@@ -1,7 +1,7 @@
 //! "Times at a zone": leaving, reaching and the entry from one stream to another.
 
 use crate::exact::{fraction, whole, Time};
-use crate::junction::{Junction, Kind};
+use crate::junction::{IslandCrossing, Junction, Kind};
 
 /// Leaving time after the green's end, with clearing distance l in dm.
 pub fn leaving(kind: &Kind, l: u16) -> Time {
@@ -28,8 +28,10 @@ pub fn leaving(kind: &Kind, l: u16) -> Time {
                 Time::plain(fraction(111, 10) + fraction(l - 400, 111)) // (11')
             }
         }
-        Kind::Pedestrian(p) => Time::plain(fraction(l, p.speed as i128)), // (12)
-        Kind::Cyclist(_) => Time::plain(whole(1) + fraction(l, 40)),      // (12')
+        Kind::Pedestrian(p) | Kind::Island(IslandCrossing { walk: p, .. }) => {
+            Time::plain(fraction(l, p.speed as i128)) // (12)
+        }
+        Kind::Cyclist(_) => Time::plain(whole(1) + fraction(l, 40)), // (12')
     }
 }
 
@@ -42,9 +44,11 @@ pub fn reaching(kind: &Kind, r: u16) -> Time {
         Kind::Car(_) => Time::root(fraction(r + 15, 10)).later(-1), // (13)
         Kind::Tram(tram) if tram.from_stop => Time::root(fraction(r + 15, 5)), // (15)
         Kind::Tram(_) => flying,
-        Kind::Pedestrian(p) if p.reach_counted => Time::plain(fraction(r, 15)), // (18)
-        Kind::Cyclist(c) if c.reach_counted => Time::plain(fraction(r, 50)),    // (18')
-        Kind::Pedestrian(_) | Kind::Cyclist(_) => Time::plain(whole(0)),        // (17)
+        Kind::Pedestrian(p) | Kind::Island(IslandCrossing { walk: p, .. }) if p.reach_counted => {
+            Time::plain(fraction(r, 15)) // (18)
+        }
+        Kind::Cyclist(c) if c.reach_counted => Time::plain(fraction(r, 50)), // (18')
+        Kind::Pedestrian(_) | Kind::Cyclist(_) | Kind::Island(_) => Time::plain(whole(0)), // (17)
     }
 }
 

@@ -67,7 +67,7 @@ pub fn lost_time(junction: &Junction, phases: &[Phase], cycle: i64) -> i64 {
 pub fn first_length(junction: &Junction, phases: &[Phase]) -> i64 {
     let y: i64 = phases.iter().map(|p| p.y).sum();
     let l = lost_time(junction, phases, 1);
-    let by_33 = junction.streams.iter().any(|s| matches!(s.kind, Kind::Pedestrian(_) | Kind::Tram(_)));
+    let by_33 = junction.streams.iter().any(|s| s.is_pedestrian_or_tram());
     let mut t = 1;
     loop {
         let enough = if by_33 {

@@ -2,7 +2,7 @@
 mod calls;
 use calls::*;
 use givendra_sys::{JunctionAnswer, PlanAnswer, GIVENDRA_RELEASE};
-use model::annex::{need as model_need, saturation, y_of, TABLE_3};
+use model::annex::{crossing_quotient, need as model_need, packet_quotient, saturation, y_of, TABLE_3};
 use model::faults::*;
 use model::generate::*;
 use model::judge::rules;
@@ -73,6 +73,9 @@ fn check_judging(hits: &mut Hits, junction: &Lent, plan: &Lent, known: &Known) {
     let model = judged(known.judge(plan.bytes()));
     same("judge", judge(junction, plan), model, junction.bytes(), plan.bytes());
     hits.hit("judge", model.refusal);
+    if known.read.as_ref().is_ok_and(|j| j.streams.iter().any(|s| island_column(&s.kind).is_some())) {
+        hits.hit("judge, islands", model.refusal);
+    }
 }
 
 /// The planner in a buffer of this size: answer, every byte of the buffer, and the bounds of the tried count.
@@ -189,7 +192,7 @@ const PAIRS: usize = 250_000;
 #[test]
 fn files() {
     let mut r = Random::new(seed("files", 11));
-    let mut hits = Hits::new(&["judge", "read_junction", "work_out"]);
+    let mut hits = Hits::new(&["judge", "judge, islands", "read_junction", "work_out"]);
     let mut pairs = 0;
     while pairs < PAIRS {
         if r.one_in(8) {
@@ -217,6 +220,7 @@ fn files() {
     hits.print();
     hits.at_least(1_000, "judge", &JUNCTION);
     hits.at_least(1_000, "judge", &[0, 11, 12, 13, 15, 16, 17]);
+    hits.at_least(1_000, "judge, islands", &[0, 15, 16, 17]);
     hits.at_least(1_000, "read_junction", &JUNCTION);
     hits.at_least(1_000, "read_junction", &[0]);
     hits.at_least(1_000, "work_out", &JUNCTION);
@@ -306,7 +310,16 @@ fn known_stream(junction: &Junction, stream: usize) -> Result<Kind, Refusal> {
 fn model_figure_of_car(junction: &Junction, stream: usize, figure: fn(&model::junction::Car, u16) -> i64) -> Result<u32, Refusal> {
     match known_stream(junction, stream)? {
         Kind::Car(car) => Ok(figure(&car, junction.flow(stream).expect("question 9")) as u32),
-        _ => Err(Refusal { number: 7, place: stream }),
+        Kind::Tram(_) | Kind::Pedestrian(_) | Kind::Cyclist(_) | Kind::Island(_) => Err(Refusal { number: 7, place: stream }),
+    }
+}
+
+/// For an island, the column of its need, by the larger quotient.
+fn island_column(kind: &Kind) -> Option<&'static str> {
+    match kind {
+        Kind::Island(i) if packet_quotient(i) > crossing_quotient(&i.walk) => Some("need by packet"),
+        Kind::Island(_) => Some("need by crossing"),
+        Kind::Car(_) | Kind::Tram(_) | Kind::Pedestrian(_) | Kind::Cyclist(_) => None,
     }
 }
 
@@ -340,6 +353,9 @@ fn check_figures(r: &mut Random, hits: &mut Hits, file: &[u8], known: &Known) {
             let model = figure(model_need_of(j, from, cycle));
             same(&format!("need of {from} at {cycle}"), need(&lent, from, cycle), model, file, &[]);
             hits.hit("need", model.refusal);
+            if let Some(column) = known_stream(j, from).ok().and_then(|kind| island_column(&kind)) {
+                hits.hit(column, model.refusal);
+            }
         }
         let model = figure(model_figure_of_car(j, from, |car, _| saturation(car)));
         same(&format!("saturation_flow of {from}"), saturation_flow(&lent, from), model, file, &[]);
@@ -367,7 +383,8 @@ fn check_refused_figures(r: &mut Random, hits: &mut Hits, file: &[u8], refusal: 
 #[test]
 fn figures() {
     let mut r = Random::new(seed("figures", 13));
-    let mut hits = Hits::new(&["intergreen", "need", "saturation_flow", "flow_ratio", "refused file"]);
+    let needs = ["need", "need by packet", "need by crossing"];
+    let mut hits = Hits::new(&[&["intergreen"], &needs[..], &["saturation_flow", "flow_ratio", "refused file"]].concat());
     for _ in 0..5_000 {
         let file = if r.one_in(8) { limit_junction(&mut r) } else { rich_junction(&mut r) }.to_file();
         let file = if r.one_in(4) { at_the_limits(&mut r, &file) } else { file };
@@ -387,7 +404,9 @@ fn figures() {
     for name in ["intergreen", "need", "saturation_flow", "flow_ratio"] {
         hits.at_least(1_000, name, &[0, 7]);
     }
-    hits.at_least(1_000, "need", &[13]);
+    for name in needs {
+        hits.at_least(1_000, name, &[0, 13]);
+    }
     hits.at_least(1_000, "refused file", &JUNCTION);
 }
 

@@ -1,20 +1,26 @@
 //! Random junctions and plans: the judge against the meaning, the planner against the judge.
-use model::exact::{fraction, Time};
-use model::faults::damaged;
+use model::annex::{crossing_quotient, need, packet_quotient};
+use model::exact::{fraction, whole, Time};
+use model::faults::*;
 use model::generate::*;
 use model::judge::rules;
-use model::junction::{read_junction, Kind};
+use model::junction::{read_junction, two, IslandCrossing, Junction, Kind, Stream};
 use model::meaning::meaning_over;
 use model::random::{seed, Random};
 use model::times::{entry, leaving, reaching, Entries};
-use model::{judge, meaning, read_plan, work_out};
+use model::{judge, meaning, read_plan, work_out, Refusal};
 use std::collections::BTreeMap;
+
+fn is_island(stream: &Stream) -> bool {
+    matches!(stream.kind, Kind::Island(_))
+}
 
 #[test]
 fn judge_accepts_exactly_what_the_meaning_allows() {
     let mut r = Random::new(seed("judge_and_meaning", 1));
     let mut answers: BTreeMap<u8, usize> = BTreeMap::new();
     let (mut pairs, mut junctions, mut worked_out, mut wrapped) = (0, 0, 0, 0);
+    let (mut accepted_islands, mut short_islands) = (0, 0);
     while pairs < 240_000 {
         let junction = if r.one_in(12) { limit_junction(&mut r) } else { rich_junction(&mut r) };
         let file = junction.to_file();
@@ -51,15 +57,22 @@ fn judge_accepts_exactly_what_the_meaning_allows() {
             if judged.is_ok() && plan.greens.iter().any(|g| g.start + g.length > plan.cycle) {
                 wrapped += 1;
             }
+            match judged {
+                Ok(()) if junction.streams.iter().any(is_island) => accepted_islands += 1,
+                Err(Refusal { number: 15, place }) if is_island(junction.stream(place)) => short_islands += 1,
+                _ => {}
+            }
             pairs += 1;
         }
     }
     println!("{pairs} pairs, {junctions} junctions, {worked_out} worked out, accepted and past the end {wrapped}, answers {answers:?}");
+    println!("accepted with an island {accepted_islands}, refused for an island's need {short_islands}");
     // the test says something only if all answers come often
     for number in [0, 15, 16, 17] {
         assert!(answers[&number] > 5_000, "{answers:?}");
     }
     assert!(wrapped > 5_000 && worked_out > 2_000);
+    assert!(accepted_islands > 5_000 && short_islands > 1_000);
 }
 
 #[test]
@@ -255,4 +268,181 @@ fn entries_round_up() {
             }
         }
     }
+}
+
+// ---- crossings with an island
+
+/// The islands of a junction.
+fn islands(junction: &Junction) -> Vec<IslandCrossing> {
+    let island = |s: &Stream| match s.kind {
+        Kind::Island(i) => Some(i),
+        Kind::Car(_) | Kind::Tram(_) | Kind::Pedestrian(_) | Kind::Cyclist(_) => None,
+    };
+    junction.streams.iter().filter_map(island).collect()
+}
+
+/// The need in whole numbers, all quotients in 48ths of a second.
+fn need_by_whole_numbers(i: &IslandCrossing) -> i64 {
+    let packet = 4 * (i.wider_carriageway as i64 + i.island as i64 + i.packet as i64);
+    let crossing = i.walk.crossing as i64 * if i.walk.crossing > 120 || i.walk.people <= 120 { 3 } else { 4 };
+    let disturbed = if i.walk.disturbed { 3 * 48 } else { 0 };
+    ((packet.max(crossing) + disturbed + 47) / 48).max(6)
+}
+
+/// Which quotient decides the need, or that the least of 6 s does.
+fn decided_by(i: &IslandCrossing) -> &'static str {
+    let (packet, crossing) = (packet_quotient(i), crossing_quotient(&i.walk));
+    let added = whole(if i.walk.disturbed { 3 } else { 0 });
+    if packet.max(crossing) + added <= whole(6) {
+        "6 s"
+    } else if packet > crossing {
+        "packet"
+    } else if crossing > packet {
+        "crossing"
+    } else {
+        "both alike"
+    }
+}
+
+/// Random junctions have islands of every sort, and their needs are the same by another calculation.
+#[test]
+fn islands_come_often() {
+    let mut r = Random::new(seed("islands_come_often", 8));
+    let mut sorts: BTreeMap<&str, usize> = BTreeMap::new();
+    let mut hit = |sort: &'static str, is: bool| *sorts.entry(sort).or_default() += is as usize;
+    for _ in 0..20_000 {
+        let junction = rich_junction(&mut r);
+        let only_island = |s: &Stream| is_island(s) || !s.is_pedestrian_or_tram();
+        let all = islands(&junction);
+        hit("(33) for islands alone", !all.is_empty() && junction.streams.iter().all(only_island));
+        for i in &all {
+            let seconds = need(&Kind::Island(*i), 50);
+            assert_eq!(seconds, need_by_whole_numbers(i), "{i:?}");
+            hit("islands", true);
+            hit(decided_by(i), true);
+            hit("packet of whole seconds", decided_by(i) == "packet" && packet_quotient(i) == whole(seconds as i128));
+            hit("more than the pedestrian's", seconds > need(&Kind::Pedestrian(i.walk), 50));
+            hit("disturbed", i.walk.disturbed);
+        }
+    }
+    println!("{sorts:?}");
+    for (sort, times) in &sorts {
+        assert!(*times > 300, "{sort} came {times} times");
+    }
+    assert!(sorts["packet"] > 3_000 && sorts["crossing"] > 3_000, "{sorts:?}");
+}
+
+/// Where no packet decides a need, every answer is that of the junction with pedestrians of the same figures.
+#[test]
+fn islands_that_the_crossing_decides_are_pedestrians() {
+    let mut r = Random::new(seed("islands_as_pedestrians", 9));
+    let (mut compared, mut worked_out) = (0, 0);
+    while compared < 3_000 {
+        let mut junction = rich_junction(&mut r);
+        let mut walks = junction.clone();
+        for (s, walk) in junction.streams.iter_mut().zip(&mut walks.streams) {
+            if let Kind::Island(i) = &mut s.kind {
+                // the smallest packet, 40/12, is no more than 54/16
+                (i.wider_carriageway, i.island, i.packet) = (10, 10, 20);
+                i.walk.crossing = i.walk.crossing.max(54);
+                walk.kind = Kind::Pedestrian(i.walk);
+            }
+        }
+        if junction == walks {
+            continue;
+        }
+        compared += 1;
+        let (file, walks_file) = (junction.to_file(), walks.to_file());
+        assert_eq!(file.len(), walks_file.len() + 6 * islands(&junction).len());
+        let entries = Entries::of(&junction);
+        for i in 1..=junction.streams.len() {
+            for j in 1..=junction.streams.len() {
+                assert_eq!(entries.from_to(i, j), entry(&walks, i, j), "{junction:?}");
+            }
+        }
+        let (mut a, mut b) = ([9; 140], [9; 140]);
+        let worked = work_out(&file, &mut a);
+        assert_eq!(worked, work_out(&walks_file, &mut b), "{junction:?}");
+        assert_eq!(a, b);
+        worked_out += worked.is_ok() as usize;
+        for _ in 0..4 {
+            let plan = packed_plan(&mut r, &junction, &entries).to_file();
+            assert_eq!(judge(&file, &plan), judge(&walks_file, &plan), "{junction:?}");
+        }
+    }
+    println!("{worked_out} of {compared} worked out");
+    assert!(worked_out > 1_000);
+}
+
+/// What is wrong with this body of kind 5.
+fn wrong_number(body: &[u8]) -> &'static str {
+    let (wider_carriageway, island, packet) = (two(body, 9), two(body, 11), two(body, 13));
+    match (wider_carriageway, island, packet) {
+        (0..=9, _, _) => "carriageway below",
+        (601.., _, _) => "carriageway above",
+        (_, 0..=9, _) => "island below",
+        (_, 601.., _) => "island above",
+        (_, _, 0..=19) => "packet below",
+        (_, _, 201..) => "packet above",
+        _ if packet % 5 != 0 => "packet no multiple of 5",
+        _ => "nothing",
+    }
+}
+
+/// Lengths of kind 5, unknown kinds and the three numbers of an island: each is refused with its number, at its stream.
+#[test]
+fn faulty_islands() {
+    let mut r = Random::new(seed("faulty_islands", 10));
+    let mut lengths: BTreeMap<usize, usize> = BTreeMap::new();
+    let mut kinds: BTreeMap<u8, usize> = BTreeMap::new();
+    let mut numbers: BTreeMap<&str, usize> = BTreeMap::new();
+    for _ in 0..20_000 {
+        let file = rich_junction(&mut r).to_file();
+        let refused = |r: &mut Random, body: &[u8], number: u8| {
+            let (file, place) = with_stream(r, &file, body);
+            assert_eq!(read_junction(&file), Err(Refusal { number, place }), "{body:?}");
+        };
+        let body = island_of_another_length(&mut r);
+        refused(&mut r, &body, 4);
+        *lengths.entry(body.len()).or_default() += 1;
+        let body = stream_of_unknown_kind(&mut r);
+        refused(&mut r, &body, 5);
+        *kinds.entry(body[0]).or_default() += 1;
+        let body = island_out_of_range(&mut r);
+        refused(&mut r, &body, 5);
+        *numbers.entry(wrong_number(&body)).or_default() += 1;
+    }
+    println!("lengths {lengths:?}, {} unknown kinds, numbers {numbers:?}", kinds.len());
+    for length in [9, 13, 14, 16] {
+        assert!(lengths[&length] > 1_000, "{length} bytes came {} times", lengths[&length]);
+    }
+    assert!(kinds.keys().copied().eq([0].into_iter().chain(6..=255)));
+    assert!(kinds[&0] > 1_000 && kinds[&6] > 1_000);
+    assert_eq!(numbers.len(), 7);
+    for (number, times) in numbers {
+        assert!(times > 1_000, "{number} came {times} times");
+    }
+}
+
+/// The files that aim at questions 4 and 5 often fail there for a stream of kind 5, and for one of an unknown kind.
+#[test]
+fn aimed_at_islands() {
+    let mut r = Random::new(seed("aimed_at_islands", 16));
+    let mut hits: BTreeMap<(u8, bool), usize> = BTreeMap::new();
+    for number in [4, 5] {
+        for _ in 0..10_000 {
+            let file = aimed_at(&mut r, number);
+            if let Err(Refusal { number: given @ (4 | 5), place }) = read_junction(&file) {
+                // an empty body has no kind
+                let kind = if file[place] == 2 && two(&file, place + 1) > 0 { file[place + 3] } else { 1 };
+                if !(1..=4).contains(&kind) {
+                    *hits.entry((given, kind == 5)).or_default() += 1;
+                }
+            }
+        }
+    }
+    println!("refusal and whether for an island: {hits:?}");
+    assert!(hits[&(4, true)] > 1_000 && hits[&(5, true)] > 1_000 && hits[&(5, false)] > 500, "{hits:?}");
+    // of an unknown kind the length is not judged
+    assert_eq!(hits.get(&(4, false)), None);
 }

@@ -1,12 +1,13 @@
-//! Every example of the readings that concerns the base.
+//! Every example of the readings that concerns the base, and what request 2026-01 adds to it.
 mod common;
 use common::*;
 use model::annex::need;
 use model::cases::bytes_of;
 use model::junction::*;
-use model::times::{entry, Entries};
+use model::times::{entry, leaving, reaching, Entries};
 use model::work_out::{first_length, lost_time, phases, plan_for};
 use model::{judge, read_junction, work_out, Refusal};
+use std::ops::Range;
 
 fn reads(text: &str) -> Result<(), Refusal> {
     read_junction(&bytes_of(text)).map(|_| ())
@@ -23,6 +24,11 @@ fn changed(at: usize, to: u8) -> Result<(), Refusal> {
     read_junction(&file).map(|_| ())
 }
 
+/// Every kind but 1 to 5.
+fn unknown_kinds() -> impl Iterator<Item = u8> {
+    [0].into_iter().chain(6..=255)
+}
+
 #[test]
 fn junction_files() {
     // 2 before 3
@@ -37,10 +43,16 @@ fn junction_files() {
     assert_eq!(reads(&format!("{WC} 04 00 00")), refused(4, 58));
     // a stream's empty body 4; unknown kind 5 whatever its length; known kind of another length 4
     assert_eq!(reads("01 00 04 00 07 23 28 02 00 00"), refused(4, 7));
-    assert_eq!(reads("01 00 04 00 07 23 28 02 00 01 05"), refused(5, 7));
-    assert_eq!(reads("01 00 04 00 07 23 28 02 00 01 00"), refused(5, 7));
-    assert_eq!(changed(10, 5), refused(5, 7));
-    assert_eq!(changed(10, 3), refused(4, 7));
+    for unknown in unknown_kinds() {
+        assert_eq!(reads(&format!("01 00 04 00 07 23 28 02 00 01 {unknown:02x}")), refused(5, 7));
+        assert_eq!(changed(10, unknown), refused(5, 7));
+    }
+    for known in 1..=5 {
+        assert_eq!(reads(&format!("01 00 04 00 07 23 28 02 00 01 {known:02x}")), refused(4, 7));
+    }
+    for shorter_or_longer in 2..=5 {
+        assert_eq!(changed(10, shorter_or_longer), refused(4, 7));
+    }
     // a stream number has no range of its own: 7 judges it, after 5 and 6
     assert_eq!(changed(38, 0), refused(7, 35));
     assert_eq!(changed(39, 255), refused(7, 35));
@@ -204,4 +216,194 @@ fn working_out() {
         &[count(3, 300)],
     );
     assert_eq!(worked(&three), refused(22, 0));
+}
+
+// ---- request 2026-01: crossings with an island
+
+/// The whole case with kind 5 in the place of kind 3: wider carriageway 60, island 20, packet 40.
+const ISLAND_CASE: &str = "01 00 04 00 07 23 28 02 00 0d 01 01 03 00 00 00 01 5e 01 0a 02 00 00 \
+                           02 00 0f 05 02 0c 00 46 00 c8 00 00 00 3c 00 14 00 28 \
+                           03 00 0a 01 02 00 8c 00 4b 00 46 00 00 04 00 07 01 23 28 00 00 02 58";
+
+/// The place of its island's tag, and its island's body.
+const ISLAND_AT: usize = 23;
+const ISLAND_BODY: Range<usize> = 26..41;
+
+fn island_case() -> Junction {
+    let mut j = whole_case();
+    j.streams[1] = with_island(j.streams[1], 60, 20, 40);
+    j
+}
+
+/// Needs worked out by hand from document 02: V, people an hour, disturbed; B, u, P; and the need.
+const NEEDS: [(u16, u16, bool, u16, u16, u16, i64); 22] = [
+    // 40/12 = 3.33, 70/12 = 5.83: the crossing decides, up to 6
+    (70, 200, false, 10, 10, 20, 6),
+    // 72/12 = 6 exactly
+    (70, 200, false, 22, 20, 30, 6),
+    // 73/12 = 6.08, 75/12 = 6.25
+    (70, 200, false, 23, 20, 30, 7),
+    (70, 200, false, 20, 20, 35, 7),
+    // 120/12 = 10 exactly, 121/12 = 10.08; a decimetre more of the island counts as one of the carriageway
+    (70, 200, false, 60, 20, 40, 10),
+    (70, 200, false, 61, 20, 40, 11),
+    (70, 200, false, 60, 21, 40, 11),
+    (70, 200, false, 60, 20, 45, 11),
+    // 120/16 = 7.5 since the people are few; the packet's quotient has 12 all the same: 120/12 = 10
+    (120, 120, false, 60, 20, 40, 10),
+    // both are 10; plus 3
+    (120, 200, true, 60, 20, 40, 13),
+    // the crossing decides: 120/12 = 10, 120/16 = 7.5, 121/16 = 7.56, 40/12 = 3.33
+    (120, 200, false, 10, 10, 20, 10),
+    (120, 121, false, 10, 10, 20, 10),
+    (120, 120, false, 10, 10, 20, 8),
+    (121, 200, false, 10, 10, 20, 8),
+    // 600/16 = 37.5, plus 3: 40.5
+    (600, 200, true, 10, 10, 20, 41),
+    // 40/12 = 3.33, at least 6; plus 3 is 6.33
+    (10, 0, false, 10, 10, 20, 6),
+    (10, 0, true, 10, 10, 20, 7),
+    // 155/12 = 12.92 and 200/16 = 12.5; 150/12 = 12.5, the same; 145/12 = 12.08, below it
+    (200, 500, false, 70, 20, 65, 13),
+    (200, 500, false, 65, 20, 65, 13),
+    (200, 500, true, 60, 20, 65, 16),
+    // 1,400/12 = 116.67, plus 3: 119.67
+    (600, 200, false, 600, 600, 200, 117),
+    (600, 200, true, 600, 600, 200, 120),
+];
+
+#[test]
+fn needs_of_islands() {
+    for (crossing, people, disturbed, b, u, p, seconds) in NEEDS {
+        let stream = with_island(walk(2, crossing, people, disturbed), b, u, p);
+        for cycle in [1, 50, 180] {
+            assert_eq!(need(&stream.kind, cycle), seconds, "{stream:?}");
+        }
+        let file = Junction { streams: vec![car(1, CAR), stream], ..whole_case() };
+        assert_eq!(read_junction(&file.to_file()), Ok(file));
+    }
+}
+
+/// The island case with this body in the place of its island's.
+fn with_body(body: &[u8]) -> Result<(), Refusal> {
+    let file = bytes_of(ISLAND_CASE);
+    let length = (body.len() as u16).to_be_bytes();
+    let other = [&file[..ISLAND_AT + 1], &length[..], body, &file[ISLAND_BODY.end..]].concat();
+    read_junction(&other).map(|_| ())
+}
+
+/// The island case with these bytes at this place of its island's body.
+fn with_bytes(at: usize, bytes: &[u8]) -> Result<(), Refusal> {
+    let mut body = bytes_of(ISLAND_CASE)[ISLAND_BODY].to_vec();
+    body[at..at + bytes.len()].copy_from_slice(bytes);
+    with_body(&body)
+}
+
+#[test]
+fn lengths_of_islands() {
+    let file = bytes_of(ISLAND_CASE);
+    assert_eq!(read_junction(&file), Ok(island_case()));
+    assert_eq!(island_case().to_file(), file);
+    // every length but 15 is 4, and where numbers are out of range too
+    for length in (1..15).chain([16, 17, 271]) {
+        let mut body = file[ISLAND_BODY].to_vec();
+        body.resize(length, 0);
+        assert_eq!(with_body(&body), refused(4, ISLAND_AT), "{length} bytes");
+        body[1..].fill(255);
+        assert_eq!(with_body(&body), refused(4, ISLAND_AT), "{length} bytes");
+    }
+    // the other known kinds of 15 bytes are 4, unknown ones 5
+    for kind in 1..=4 {
+        assert_eq!(with_bytes(0, &[kind]), refused(4, ISLAND_AT));
+    }
+    for unknown in unknown_kinds() {
+        assert_eq!(with_bytes(0, &[unknown]), refused(5, ISLAND_AT));
+    }
+}
+
+#[test]
+fn numbers_of_islands() {
+    let answer = |good: bool| if good { Ok(()) } else { refused(5, ISLAND_AT) };
+    for number in 0..=65_535u16 {
+        let with_number = |at| with_bytes(at, &number.to_be_bytes());
+        assert_eq!(with_number(3), answer((10..=600).contains(&number)), "crossing {number}");
+        assert_eq!(with_number(5), answer(number <= 9_999), "people {number}");
+        assert_eq!(with_number(9), answer((10..=600).contains(&number)), "wider carriageway {number}");
+        assert_eq!(with_number(11), answer((10..=600).contains(&number)), "island {number}");
+        assert_eq!(with_number(13), answer((20..=200).step_by(5).any(|p| p == number)), "packet {number}");
+    }
+    for byte in 0..=255 {
+        assert_eq!(with_bytes(2, &[byte]), answer((12..=15).contains(&byte)), "speed {byte}");
+        assert_eq!(with_bytes(7, &[byte]), answer(byte <= 1), "reach counted {byte}");
+        assert_eq!(with_bytes(8, &[byte]), answer(byte <= 1), "disturbed {byte}");
+    }
+    for phase in [0, 7, 255] {
+        assert_eq!(with_bytes(1, &[phase]), refused(5, ISLAND_AT), "phase {phase}");
+    }
+    // the 17th stream is 6, or 5 where a number is out of range
+    let mut many = island_case();
+    many.streams.resize(17, many.streams[1]);
+    assert_eq!(read_junction(&many.to_file()).map(|_| ()), refused(6, ISLAND_AT + 15 * 18));
+    many.streams[16] = with_island(walk(2, 70, 200, false), 60, 20, 41);
+    assert_eq!(read_junction(&many.to_file()).map(|_| ()), refused(5, ISLAND_AT + 15 * 18));
+}
+
+// In all else kind 5 counts as a pedestrian.
+
+#[test]
+fn islands_leave_and_reach_as_pedestrians() {
+    for (speed, reach_counted) in (12..=15).flat_map(|speed| [(speed, false), (speed, true)]) {
+        let figures = Pedestrian { speed, crossing: 70, people: 200, reach_counted, disturbed: false };
+        let walker = Stream { phase: 2, kind: Kind::Pedestrian(figures) };
+        let island = with_island(walker, 600, 600, 200);
+        for distance in 0..=999 {
+            assert_eq!(leaving(&island.kind, distance), leaving(&walker.kind, distance));
+            assert_eq!(reaching(&island.kind, distance), reaching(&walker.kind, distance));
+        }
+    }
+    // the whole case's entries
+    let j = island_case();
+    assert_eq!((entry(&j, 1, 2), entry(&j, 2, 1)), (5, 4));
+}
+
+#[test]
+fn islands_have_no_flow() {
+    // a count that names one: 7 at the count's tag
+    let mut counted = bytes_of(ISLAND_CASE);
+    assert_eq!((counted[54], counted[57]), (4, 1));
+    counted[57] = 2;
+    assert_eq!(read_junction(&counted).map(|_| ()), refused(7, 54));
+    // no car: 8
+    let none = junction(&[with_island(walk(1, 70, 200, false), 60, 20, 40), cyclist(2)], &[], &[]);
+    assert_eq!(read_junction(&none.to_file()).map(|_| ()), refused(8, none.to_file().len()));
+    // no capacity rule: 10 s are enough in any cycle, and 9 are refused by the need alone
+    for cycle in [50, 180] {
+        let plan = |green| plan_file(cycle, &[(0, cycle - 20), (cycle - 15, green)]);
+        assert_eq!(judge(&island_case().to_file(), &plan(10)), Ok(()));
+        assert_eq!(judge(&island_case().to_file(), &plan(9)), refused(15, 2));
+        assert_eq!(judge(&whole_case().to_file(), &plan(9)), Ok(()));
+    }
+}
+
+/// An island alone brings (33), where cyclists stay with (32). L is 7, as for the pedestrian who crosses 10 dm.
+#[test]
+fn islands_bring_33() {
+    let flows = [count(1, 600), count(2, 600)];
+    let third = |s: Stream| junction(&[car(1, CAR), car(2, CAR), s], &[], &flows);
+    assert_eq!(worked(&third(with_island(walk(3, 10, 200, false), 10, 10, 20))).unwrap().0, 48);
+    assert_eq!(worked(&third(with_island(walk(2, 10, 200, false), 10, 10, 20))).unwrap(), (1, 18, 18));
+}
+
+/// The whole case with an island, worked out by hand: the need is 10, L is 5 - 1 + 10 + 4 = 18, and (33) asks for
+/// T x T x 6,883 >= 21,600,000: 57. Effective green 39, green 38; the island starts at 38 + 5.
+#[test]
+fn working_out_with_an_island() {
+    let j = island_case();
+    let p = phases(&j, &Entries::of(&j));
+    assert_eq!(lost_time(&j, &p, 57), 18);
+    let mut buffer = [0; 21];
+    let worked = work_out(&bytes_of(ISLAND_CASE), &mut buffer).unwrap();
+    assert_eq!((worked.first_length, worked.cycle, worked.tried), (57, 57, 1));
+    assert_eq!(buffer[..], plan_file(57, &[(0, 38), (43, 10)]));
+    assert_eq!(judge(&bytes_of(ISLAND_CASE), &buffer), Ok(()));
 }

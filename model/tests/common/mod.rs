@@ -19,6 +19,12 @@ pub fn walk(phase: u8, crossing: u16, people: u16, disturbed: bool) -> Stream {
     Stream { phase, kind: Kind::Pedestrian(Pedestrian { speed: 12, crossing, people, reach_counted: false, disturbed }) }
 }
 
+/// The stream of kind 5 with the figures of this one of kind 3, and wider carriageway, island and packet.
+pub fn with_island(walker: Stream, wider_carriageway: u16, island: u16, packet: u16) -> Stream {
+    let Kind::Pedestrian(walk) = walker.kind else { panic!("no pedestrian: {walker:?}") };
+    Stream { kind: Kind::Island(IslandCrossing { walk, wider_carriageway, island, packet }), ..walker }
+}
+
 pub fn cyclist(phase: u8) -> Stream {
     Stream { phase, kind: Kind::Cyclist(Cyclist { reach_counted: false }) }
 }
