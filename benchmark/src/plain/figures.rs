@@ -1,5 +1,5 @@
 //! Entries, needs and flows (annex, sections 1 and 2), and the tables of them that are worked out once.
-use super::reading::{Car, Junction, Kind, Pedestrian, Stream, Tram, Zone};
+use super::reading::{Car, Island, Junction, Kind, Pedestrian, Stream, Tram, Zone};
 
 // ---- times
 
@@ -15,8 +15,9 @@ fn leaving(kind: &Kind, l: u16) -> Time {
     match kind {
         Kind::Car(c) => car_leaving(c, l),
         Kind::Tram(t) => tram_leaving(t, l),
-        Kind::Pedestrian(p) => Time::Ratio { n: l, d: p.speed as u64 },
+        Kind::Pedestrian(p) => walk_leaving(p, l),
         Kind::Cyclist { .. } => Time::Ratio { n: 40 + l, d: 40 },
+        Kind::Island(i) => walk_leaving(&i.walk, l),
     }
 }
 
@@ -40,16 +41,24 @@ fn tram_leaving(t: &Tram, l: u64) -> Time {
     }
 }
 
+fn walk_leaving(p: &Pedestrian, l: u64) -> Time {
+    Time::Ratio { n: l, d: p.speed as u64 }
+}
+
 fn reaching(kind: &Kind, r: u16) -> Time {
     let r = r as u64;
     match kind {
         Kind::Car(Car { flying: true, .. }) | Kind::Tram(Tram { stop: false, .. }) => Time::Ratio { n: 9 * r, d: 1_000 },
         Kind::Car(_) => Time::Root { q: r + 15, d: 10, less: 1 },
         Kind::Tram(_) => Time::Root { q: r + 15, d: 5, less: 0 },
-        Kind::Pedestrian(Pedestrian { counted: true, .. }) => Time::Ratio { n: r, d: 15 },
-        Kind::Cyclist { counted: true } => Time::Ratio { n: r, d: 50 },
-        Kind::Pedestrian(_) | Kind::Cyclist { .. } => Time::Ratio { n: 0, d: 1 },
+        Kind::Pedestrian(p) => counted_reaching(p.counted, r, 15),
+        Kind::Cyclist { counted } => counted_reaching(*counted, r, 50),
+        Kind::Island(i) => counted_reaching(i.walk.counted, r, 15),
     }
+}
+
+fn counted_reaching(counted: bool, r: u64, speed: u64) -> Time {
+    if counted { Time::Ratio { n: r, d: speed } } else { Time::Ratio { n: 0, d: 1 } }
 }
 
 /// Is the leaving time at most gap + the reaching time? By squares, twice where two roots meet.
@@ -98,12 +107,25 @@ pub fn need(kind: &Kind, cycle: u16) -> u16 {
     match kind {
         Kind::Car(_) => 8,
         Kind::Tram(t) => if cycle <= TABLE_3[t.hourly.max(15) as usize - 15] { 10 } else { 20 },
-        Kind::Pedestrian(p) => {
-            let speed = if p.crossing > 120 || p.hourly <= 120 { 16 } else { 12 };
-            (p.crossing.div_ceil(speed) + if p.disturbed { 3 } else { 0 }).max(6)
-        }
+        Kind::Pedestrian(p) => pedestrian_need(p),
         Kind::Cyclist { .. } => 6,
+        Kind::Island(i) => island_need(i),
     }
+}
+
+fn pedestrian_need(p: &Pedestrian) -> u16 {
+    let speed = if p.crossing > 120 || p.hourly <= 120 { 16 } else { 12 };
+    (p.crossing.div_ceil(speed) + disturbance(p)).max(6)
+}
+
+/// (39'): the larger of two quotients, rounded up, is the larger of both rounded up.
+fn island_need(i: &Island) -> u16 {
+    let way = i.wider + i.island + i.packet;
+    (way.div_ceil(12) + disturbance(&i.walk)).max(pedestrian_need(&i.walk))
+}
+
+fn disturbance(p: &Pedestrian) -> u16 {
+    if p.disturbed { 3 } else { 0 }
 }
 
 fn base_flow(c: &Car) -> u64 {
@@ -198,7 +220,7 @@ pub fn load(j: &Junction, stream: usize) -> Load {
             let saturation = saturation_flow(car);
             Load { flow, saturation, ratio: (10_000 * flow as u32).div_ceil(saturation) }
         }
-        _ => Load::default(),
+        Kind::Tram(_) | Kind::Pedestrian(_) | Kind::Cyclist { .. } | Kind::Island(_) => Load::default(),
     }
 }
 

@@ -30,12 +30,22 @@ pub struct Pedestrian {
     pub disturbed: bool,
 }
 
+/// A crossing with an island, which people cross in one go: a pedestrian's figures and three lengths.
+#[derive(Clone, Copy)]
+pub struct Island {
+    pub walk: Pedestrian,
+    pub wider: u16,
+    pub island: u16,
+    pub packet: u16,
+}
+
 #[derive(Clone, Copy)]
 pub enum Kind {
     Car(Car),
     Tram(Tram),
     Pedestrian(Pedestrian),
     Cyclist { counted: bool },
+    Island(Island),
 }
 
 #[derive(Clone, Copy)]
@@ -166,6 +176,7 @@ impl Junction {
             Some(2) => 6,
             Some(3) => 9,
             Some(4) => 3,
+            Some(5) => 15,
             Some(_) => return Err(5),
         };
         if body.len() != length {
@@ -174,8 +185,10 @@ impl Junction {
         let kind = match body[0] {
             1 => car(body),
             2 => tram(body),
-            3 => pedestrian(body),
-            _ => (body[2] <= 1).then_some(Kind::Cyclist { counted: body[2] == 1 }),
+            3 => pedestrian(body).map(Kind::Pedestrian),
+            4 => (body[2] <= 1).then_some(Kind::Cyclist { counted: body[2] == 1 }),
+            5 => island(body),
+            _ => None,
         };
         let Some(kind) = kind else { return Err(5) };
         if !(1..=6).contains(&body[1]) {
@@ -279,14 +292,16 @@ fn tram(b: &[u8]) -> Option<Kind> {
     good.then_some(Kind::Tram(Tram { stop: b[2] == 1, length, hourly: b[5] }))
 }
 
-fn pedestrian(b: &[u8]) -> Option<Kind> {
+/// What kinds 3 and 5 have in common.
+fn pedestrian(b: &[u8]) -> Option<Pedestrian> {
     let (crossing, hourly) = (number(b, 3), number(b, 5));
     let good = (12..=15).contains(&b[2]) && (10..=600).contains(&crossing) && hourly <= 9_999 && b[7] <= 1 && b[8] <= 1;
-    good.then_some(Kind::Pedestrian(Pedestrian {
-        speed: b[2],
-        crossing,
-        hourly,
-        counted: b[7] == 1,
-        disturbed: b[8] == 1,
-    }))
+    good.then_some(Pedestrian { speed: b[2], crossing, hourly, counted: b[7] == 1, disturbed: b[8] == 1 })
+}
+
+fn island(b: &[u8]) -> Option<Kind> {
+    let walk = pedestrian(b)?;
+    let (wider, island, packet) = (number(b, 9), number(b, 11), number(b, 13));
+    let good = (10..=600).contains(&wider) && (10..=600).contains(&island) && (20..=200).contains(&packet) && packet % 5 == 0;
+    good.then_some(Kind::Island(Island { walk, wider, island, packet }))
 }

@@ -113,7 +113,10 @@ pub fn work_out(junction: &[u8], out: &mut [u8]) -> Result<Worked, Refusal> {
     if phases.ratios() >= 10_000 {
         return refuse(21, 0);
     }
-    let slow = j.streams().iter().any(|s| matches!(s.kind, Kind::Tram(_) | Kind::Pedestrian(_)));
+    let slow = j.streams().iter().any(|s| match s.kind {
+        Kind::Tram(_) | Kind::Pedestrian(_) | Kind::Island(_) => true,
+        Kind::Car(_) | Kind::Cyclist { .. } => false,
+    });
     phases.set_needs(&j, 0);
     let first = first_length(slow, phases.ratios(), phases.lost());
 
