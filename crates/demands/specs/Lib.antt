@@ -2,6 +2,7 @@ pub mod Asked
 pub mod Figures
 pub mod Files
 pub mod FirstDemand
+pub mod Islands
 pub mod Places
 pub mod Questions
 pub mod SecondDemand

@@ -40,9 +40,9 @@ reaching-sound : (k : Kind) (r : ℕ) → Sound (reaching k r)
 unfolding reaching carReaching tramReaching walkReaching passing
 reaching-sound (Car c) r = by-test (c .flying) (λ e. rw e (omega arith)) (λ e. rw e (omega arith))
 reaching-sound (Tram t) r = by-test (t .stop) (λ e. rw e (omega arith)) (λ e. rw e (omega arith))
-reaching-sound (Pedestrian p) r = counted-sound (p .counted) r 15 (omega arith)
-reaching-sound (Cyclist y) r = counted-sound (y .counted) r 50 (omega arith)
-reaching-sound (Island i) r = counted-sound (i .walk .counted) r 15 (omega arith)
+reaching-sound (Pedestrian p) r = counted-sound _ _ _ (omega arith)
+reaching-sound (Cyclist y) r = counted-sound _ _ _ (omega arith)
+reaching-sound (Island i) r = counted-sound _ _ _ (omega arith)
 
 -- from any stream that moves to any other, with any distances: the letter of document 01 says the same as the comparison of the numbers
 pub letter-same : (earlier later : Stream) (clearing reach seconds : ℕ) → Moves (earlier .kind)

@@ -53,9 +53,10 @@ pub island-least : (i : IslandFigures) (k : ℕ)
 unfolding islandNeed
 island-least i k =
     let by-crossing = pedestrian-least (i .walk) k in
-    let by-island = up-least (i .wider + i .island + i .packet + disturbance (i .walk) * 12) 12 k (omega arith) in
-    (λ h. (by-crossing .0 (omega arith) .0, by-island .0 (omega arith), by-crossing .0 (omega arith) .1),
-    λ h. omega (arith, by-crossing .1 (h .0, h .2), by-island .1 (h .1)))
+    let by-island = up-least (i .wider + i .island + i .packet + disturbance (i .walk) * 12) 12 k (omega arith) in (
+      λ h. (by-crossing .0 (omega arith) .0, by-island .0 (omega arith), by-crossing .0 (omega arith) .1),
+      λ h. omega (arith, by-crossing .1 (h .0, h .2), by-island .1 (h .1)),
+    )
 
 -- of the rows that are listed and not wider than w, r is the one with the greatest width
 pub record Greatest (rows : List Row) (w : ℕ) (r : Row) : Type 0 where

@@ -58,9 +58,9 @@ reaching-late : (k : Kind) (r : ℕ) → NotEarly 999 (reaching k r)
 unfolding reaching carReaching tramReaching walkReaching passing
 reaching-late (Car c) r = by-test (c .flying) (λ e. rw e tt) (λ e. rw e (omega arith))
 reaching-late (Tram t) r = by-test (t .stop) (λ e. rw e (omega arith)) (λ e. rw e tt)
-reaching-late (Pedestrian p) r = counted-late (p .counted) r 15
-reaching-late (Cyclist y) r = counted-late (y .counted) r 50
-reaching-late (Island i) r = counted-late (i .walk .counted) r 15
+reaching-late (Pedestrian p) r = counted-late _ _ _
+reaching-late (Cyclist y) r = counted-late _ _ _
+reaching-late (Island i) r = counted-late _ _ _
 
 -- figures with which a stream clears in finite time: a pedestrian's speed is not 0, and amber and tram length fit their bytes
 abbrev pub Moves : Kind → Type 0
