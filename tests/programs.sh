@@ -59,6 +59,21 @@ not checked, in different phases without a zone: none
 Streams
     1  phase 1  car         needs 8 s   flow 600 E/h counted on 2024-08-22, day 9000   S 1925 E/h   y 0.3117
     2  phase 2  pedestrian  needs 6 s\n' '' sh -c 'target/bin/intergreens < examples/whole_case.junction'
+same "intergreens of the island" 'Intergreen times in s, from the stream that clears (down) to the stream that starts (across); . same phase, - not checked
+         1    2    3    4    5
+    1    .    .    .    4    5
+    2    .    .    .    3    7
+    3    .    .    .    6    -
+    4    2    3    5    .    .
+    5    8    2    -    .    .
+not checked, in different phases without a zone: 3-5
+
+Streams
+    1  phase 1  car         needs 8 s   flow 1780 E/h counted on 2024-08-02, day 8980   S 5351 E/h   y 0.3327
+    2  phase 1  car         needs 8 s   flow 1240 E/h counted on 2024-08-02, day 8980   S 3675 E/h   y 0.3375
+    3  phase 1  pedestrian  needs 10 s
+    4  phase 2  car         needs 8 s   flow 210 E/h counted on 2024-08-03, day 8981   S 1305 E/h   y 0.1610
+    5  phase 2  island      needs 18 s\n' '' target/bin/intergreens examples/island.junction
 
 # The plan that `plan` keeps is the one that `judge` accepts. A file that is there is never written over, and a refusal makes none.
 same "plan keeps its file" "$(cat examples/whole_case.txt)\n" '' target/bin/plan $junction "$work/kept.plan"
