@@ -236,7 +236,7 @@ fn island_case() -> Junction {
 }
 
 /// Needs worked out by hand from document 02: V, people an hour, disturbed; B, u, P; and the need.
-const NEEDS: [(u16, u16, bool, u16, u16, u16, i64); 22] = [
+const NEEDS: [(u16, u16, bool, u16, u16, u16, i64); 23] = [
     // 40/12 = 3.33, 70/12 = 5.83: the crossing decides, up to 6
     (70, 200, false, 10, 10, 20, 6),
     // 72/12 = 6 exactly
@@ -263,10 +263,11 @@ const NEEDS: [(u16, u16, bool, u16, u16, u16, i64); 22] = [
     // 40/12 = 3.33, at least 6; plus 3 is 6.33
     (10, 0, false, 10, 10, 20, 6),
     (10, 0, true, 10, 10, 20, 7),
-    // 155/12 = 12.92 and 200/16 = 12.5; 150/12 = 12.5, the same; 145/12 = 12.08, below it
+    // 155/12 = 12.92 and 200/16 = 12.5; 150/12 = 12.5, the same; 145/12 = 12.08, below it; 140/12 = 11.67, which alone would be 12
     (200, 500, false, 70, 20, 65, 13),
     (200, 500, false, 65, 20, 65, 13),
     (200, 500, true, 60, 20, 65, 16),
+    (200, 500, false, 70, 20, 50, 13),
     // 1,400/12 = 116.67, plus 3: 119.67
     (600, 200, false, 600, 600, 200, 117),
     (600, 200, true, 600, 600, 200, 120),

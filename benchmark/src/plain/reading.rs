@@ -177,7 +177,7 @@ impl Junction {
             Some(3) => 9,
             Some(4) => 3,
             Some(5) => 15,
-            Some(_) => return Err(5),
+            Some(0 | 6..=255) => return Err(5),
         };
         if body.len() != length {
             return Err(4);
@@ -188,7 +188,7 @@ impl Junction {
             3 => pedestrian(body).map(Kind::Pedestrian),
             4 => (body[2] <= 1).then_some(Kind::Cyclist { counted: body[2] == 1 }),
             5 => island(body),
-            _ => None,
+            0 | 6..=255 => None,
         };
         let Some(kind) = kind else { return Err(5) };
         if !(1..=6).contains(&body[1]) {

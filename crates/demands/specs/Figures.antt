@@ -57,8 +57,8 @@ pub record FiguresExact (junction : List ℕ) : Type 0 where
   pub pedestrian : (n cycle : ℕ) → exists (junctionOf junction) n ≡ true → cycleInRange cycle ≡ true
       → (p : PedestrianFigures) → streamNumbered (junctionOf junction) n .kind ≡ Pedestrian p → (k : ℕ)
       → (needAnswer junction n cycle .value ≤ k) ↔ ((6 ≤ k) × (p .crossing + disturbance p * crossingSpeed p ≤ k * crossingSpeed p))
-  -- over an island it is the least whole number that is at least 6 and at least both quotients, (wider carriageway + island + packet)/12 and
-  -- crossing/speed, each plus 3 if disturbed (39')
+  -- over an island it is the least whole number that is at least 6 and at least both quotients, (wider carriageway + island + packet)/12 (39') and
+  -- crossing/12 or crossing/16, each plus 3 if disturbed
   pub island : (n cycle : ℕ) → exists (junctionOf junction) n ≡ true → cycleInRange cycle ≡ true
       → (i : IslandFigures) → streamNumbered (junctionOf junction) n .kind ≡ Island i → (k : ℕ)
       → (needAnswer junction n cycle .value ≤ k)

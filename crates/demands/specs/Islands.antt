@@ -1,5 +1,6 @@
 -- In all but its need a crossing with an island counts as a pedestrian (document 02, 2026-01). A junction is compared with the same junction
--- drawn without islands, each kind 5 as the kind 3 that its first figures are: entries, capacities, cars and phases are the same.
+-- drawn without islands, each kind 5 as kind 3 with the figures that both have: entries, rules 16 and 17, questions 8 and 9, the phases with their
+-- cars, y and M, and the needs of all other streams are the same.
 use Prim.Native.Nat.{ℕ, _+_, _-_, _≤_, min}
 use native.Mathlib.Nat.{le-refl, le-max-left}
 use mathlib.Core.Bool.{Bool, true, false, true≢false, _&&_}
@@ -62,11 +63,14 @@ pub record AsPedestrian (j : Junction) : Type 0 where
   -- (33) holds where it is there
   pub mixed : (n : ℕ) (i : IslandFigures) → Between 1 (j .held .streams) n → streamNumbered j n .kind ≡ Island i → hasPedestrianOrTram j ≡ true
   pub mixed-same : hasPedestrianOrTram (withoutIslands j) ≡ hasPedestrianOrTram j
-  -- cars, y and M of each phase stay
+  -- the number of phases, and cars, y and M of each, stay
+  pub phases : phaseCount (withoutIslands j) ≡ phaseCount j
   pub cars : (f : ℕ) → hasCars (withoutIslands j) f ≡ hasCars j f
   pub ratios : (f : ℕ) → phaseRatio (withoutIslands j) f ≡ phaseRatio j f
   pub intergreens : (f : ℕ) → intergreen (withoutIslands j) f ≡ intergreen j f
-  -- its need is never less
+  -- the need of every other stream stays, and its own is never less
+  pub others : (n cycle : ℕ) → plain (streamNumbered j n .kind) ≡ streamNumbered j n .kind
+      → streamNeed (withoutIslands j) n cycle ≡ streamNeed j n cycle
   pub needs : (n cycle : ℕ) → streamNeed (withoutIslands j) n cycle ≤ streamNeed j n cycle
 
 -- a kind and the same without an island are alike in all but the need
@@ -202,6 +206,11 @@ module _ (j : Junction) where
   unfolding streamNeed needAt
   needs-plain n cycle = rw (stream-plain n) (alike (streamNumbered j n .kind) .need cycle)
 
+  others-plain : (n cycle : ℕ) → plain (streamNumbered j n .kind) ≡ streamNumbered j n .kind
+      → streamNeed (withoutIslands j) n cycle ≡ streamNeed j n cycle
+  unfolding streamNeed needAt
+  others-plain n cycle e = rw (stream-plain n, e)
+
   no-capacity-plain : (n : ℕ) (i : IslandFigures) → streamNumbered j n .kind ≡ Island i → (p : Plan) → capacityMet j p n ≡ true
   unfolding capacityMet
   no-capacity-plain n i is p = rw is
@@ -232,8 +241,10 @@ as-pedestrian j =
       whole-file = whole-plain j;
       mixed = mixed-there j;
       mixed-same = mixed-plain j;
+      phases = count-plain j;
       cars = cars-plain j;
       ratios = ratios-plain j;
       intergreens = intergreens-plain j;
+      others = others-plain j;
       needs = needs-plain j;
     }

@@ -44,8 +44,8 @@ pedestrian-least p k =
     let least = up-least (p .crossing + disturbance p * crossingSpeed p) (crossingSpeed p) k (crossing-positive p) in
     (λ h. (omega arith, least .0 (omega arith)), λ h. omega (arith, least .1 (h .1)))
 
--- (39'): the least whole number that is at least 6 and at least both quotients, (wider carriageway + island + packet)/12 and crossing /
--- speed, each plus 3 if disturbed
+-- (38) to (40) with (39'): the least whole number that is at least 6 and at least both quotients, (wider carriageway + island + packet)/12 and kind
+-- 3's, crossing/12 or crossing/16, each plus 3 if disturbed
 pub island-least : (i : IslandFigures) (k : ℕ)
     → (islandNeed i ≤ k)
     ↔ ((6 ≤ k) × (i .wider + i .island + i .packet + disturbance (i .walk) * 12 ≤ k * 12)

@@ -39,12 +39,13 @@ disturbance p = cond (p .disturbed) 3 0
 unfoldable pub pedestrianNeed : PedestrianFigures → ℕ
 pedestrianNeed p = max 6 (up (p .crossing + disturbance p * crossingSpeed p) (crossingSpeed p))
 
--- formula (39'), for a crossing in one go over an island: (wider carriageway + island + packet)/12, plus 3 if disturbed, rounded up; and at
--- least what the crossing needs without the island
+-- formulas (38) to (40) with (39'), for a crossing in one go over an island: (wider carriageway + island + packet)/12, plus 3 if disturbed,
+-- rounded up; and at least what the crossing needs without the island
 unfoldable pub islandNeed : IslandFigures → ℕ
 islandNeed i = max (pedestrianNeed (i .walk)) (up (i .wider + i .island + i .packet + disturbance (i .walk) * 12) 12)
 
--- the needed green of a kind at a cycle: car (38), tram (Table 3), pedestrian (38 to 40), cyclist (40'), pedestrian over an island (39')
+-- the needed green of a kind at a cycle: car (38), tram (Table 3), pedestrian (38 to 40), cyclist (40'), pedestrian over an island (38 to
+-- 40 with 39')
 unfoldable pub kindNeed : ℕ → Kind → ℕ
 kindNeed cycle (Car c) = 8
 kindNeed cycle (Tram t) = tramNeed cycle t

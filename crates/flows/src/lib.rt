@@ -89,7 +89,7 @@ fn pedestrian_need(p: PedestrianFigures) -> u32
     green as u32
 }
 
-// Formula (39'), and at least what the crossing needs without the island.
+// Formulas (38) to (40) with (39'): at least what the crossing needs without the island.
 fn island_need(i: IslandFigures) -> u32
     ensures { λ r. ⌜ r ≡ islandNeed i ⌝ }
 {

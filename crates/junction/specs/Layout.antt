@@ -74,6 +74,7 @@ unfoldable pub pedestrianInRange : List ℕ → Bool
 pedestrianInRange b =
     byteIn b 1 1 mostPhases && byteIn b 2 12 15 && numberIn b 3 10 600 && numberIn b 5 0 9999 && byteIn b 7 0 1 && byteIn b 8 0 1
 
+-- the figures that kinds 3 and 5 have
 unfoldable pub walkOf : List ℕ → PedestrianFigures
 walkOf b =
     record {

@@ -199,7 +199,7 @@ fn pedestrian_of(b: &[u8]) -> Kind
     Kind::Pedestrian(walk_of(b))
 }
 
-// What pedestrians have over an island too.
+// The figures that kinds 3 and 5 have.
 fn walk_of(b: &[u8]) -> PedestrianFigures
     ensures { λ r. ⌜ r ≡ walkOf (now (b .entry)) ⌝ }
 {

@@ -6,7 +6,7 @@ use mathlib.Core.Logic.{_↔_}
 use mathlib.Core.Path.{_≡_, refl}
 use lib.Dec.{ltb, eqb}
 use borrow.Author.Tests.{ltb-true, ltb-false, eqb-false, ne-eqb, not-true}
-use Rattle.laws.specs.Search.{firstBelow, first-passes, first-fails}
+use Rattle.laws.specs.Search.{first-passes, first-fails}
 use Rattle.laws.specs.Tests.{by-test, both-left, both-right}
 use Rattle.junction.specs.declared.Junction.{Junction}
 use Rattle.junction_places.specs.Places.{streamNumbered, zoneAt}
@@ -25,14 +25,13 @@ module _ (j : Junction) (n m : ℕ) where
   unfolding sharesZone firstShared sharesAt
   none-shared =
       let zones = j .held .zones in
-      let shares : ℕ → Bool = λ i. forward n m (zoneAt j i) || backward n m (zoneAt j i) in
-      let first = firstBelow shares zones 0 in (
+      let first = firstShared j n m in (
         λ e i low. let all : zones ≤ first = ltb-false first zones e in
-            neither _ _ (first-fails shares zones 0 i zero-le (omega arith)),
+            neither _ _ (first-fails (sharesAt j n m) zones 0 i zero-le (omega arith)),
         λ none. by-test (ltb first zones)
             (λ t. let low : first < zones = ltb-true first zones t in
             let both = none first low in
-            let shared : shares first ≡ true = first-passes shares zones 0 zero-le low in
+            let shared = first-passes (sharesAt j n m) zones 0 zero-le low in
             absurd (false≢true (rw (both .0, both .1) at shared)))
             (λ t. t),
       )

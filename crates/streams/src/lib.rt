@@ -49,15 +49,15 @@ pub struct CyclistFigures {
     pub counted: bool,
 }
 
-// Pedestrians who cross a carriageway with an island in one go.
+// Pedestrians who cross two carriageways and the island between them in one go.
 pub struct IslandFigures {
-    // What the crossing has as any other.
+    // The figures of any crossing.
     pub walk: PedestrianFigures,
-    // Width of the wider carriageway.
+    // Width of the wider carriageway, B.
     pub wider: u16,
-    // Width of the island.
+    // Width of the island, u.
     pub island: u16,
-    // Length of the packet of people.
+    // Length of the packet of people, P.
     pub packet: u16,
 }
 

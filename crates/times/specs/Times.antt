@@ -59,7 +59,7 @@ tramReaching t r = cond (t .stop) (Root (r + 15) 5 0) (passing r)
 unfoldable pub countedReaching : Bool → ℕ → ℕ → Time
 countedReaching counted r speed = cond counted (Ratio r speed) (Ratio 0 1)
 
--- pedestrian, over an island too
+-- pedestrian, over an island too: r/15 if counted (18), else 0 (17)
 unfoldable pub walkReaching : PedestrianFigures → ℕ → Time
 walkReaching p r = countedReaching (p .counted) r 15
 

@@ -139,12 +139,14 @@ values =
     (needAt 50 (walker 121 200 false false) is 8) ∷ (needAt 50 (walker 120 120 false false) is 8) ∷ (needAt 50 (walker 120 121 false false) is 10) ∷
     -- (40): 3 s more if disturbed; at least 6
     (needAt 50 (walker 120 200 false true) is 13) ∷ (needAt 50 (walker 10 200 false false) is 6) ∷
-    -- (39'): (60 + 20 + 40)/12 = 10, a decimetre more in any of the three is above it; by 12 also where the crossing is by 16
+    -- (39'): (60 + 20 + 40)/12 = 10; a decimetre more of carriageway or island, or the next packet, is above it; by 12 also where the crossing is
+    -- by 16
     (needAt 50 (overIsland 70 200 false 60 20 40) is 10) ∷ (needAt 50 (overIsland 70 200 false 61 20 40) is 11) ∷
     (needAt 50 (overIsland 70 200 false 60 21 40) is 11) ∷ (needAt 50 (overIsland 70 200 false 60 20 45) is 11) ∷
     (needAt 50 (overIsland 70 100 false 61 20 40) is 11) ∷
-    -- 3 s more if disturbed; the crossing's 200/16 = 12.5 is the larger; at least 6; (600 + 600 + 200)/12 = 116.7, and 3
-    (needAt 50 (overIsland 70 200 true 60 20 40) is 13) ∷ (needAt 50 (overIsland 200 500 false 70 20 55) is 13) ∷
+    -- 3 s more if disturbed; the crossing's 200/16 = 12.5 is larger than (70 + 20 + 50)/12 = 11.7; at least 6; (600 + 600 + 200)/12 = 116.7, and
+    -- 3 s more
+    (needAt 50 (overIsland 70 200 true 60 20 40) is 13) ∷ (needAt 50 (overIsland 200 500 false 70 20 50) is 13) ∷
     (needAt 50 (overIsland 10 200 false 10 10 20) is 6) ∷ (needAt 50 (overIsland 600 200 true 600 600 200) is 120) ∷
     -- (20): 21 × 541/4 = 2,840.25, and Table 1's last step
     (straightFlow 540 is 2700) ∷ (straightFlow 541 is 2840) ∷ (straightFlow 1500 is 7875) ∷
