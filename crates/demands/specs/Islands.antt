@@ -3,7 +3,7 @@
 -- cars, y and M, and the needs of all other streams are the same.
 use Prim.Native.Nat.{ℕ, _+_, _-_, _≤_, min}
 use native.Mathlib.Nat.{le-refl, le-max-left}
-use mathlib.Core.Bool.{Bool, true, false, true≢false, _&&_}
+use mathlib.Core.Bool.{true, false, true≢false, and-false}
 use mathlib.Core.List.{map}
 use mathlib.Core.Path.{_≡_, refl, sym, _∙_, ap}
 use lib.Dec.{leb, ltb, eqb}
@@ -61,8 +61,8 @@ pub record AsPedestrian (j : Junction) : Type 0 where
   -- 8 and 9 are answered as without islands
   pub whole-file : (size : ℕ) → wholeVerdict size (withoutIslands j) ≡ wholeVerdict size j
   -- (33) holds where it is there
-  pub mixed : (n : ℕ) (i : IslandFigures) → Between 1 (j .held .streams) n → streamNumbered j n .kind ≡ Island i → hasPedestrianOrTram j ≡ true
-  pub mixed-same : hasPedestrianOrTram (withoutIslands j) ≡ hasPedestrianOrTram j
+  pub by-33 : (n : ℕ) (i : IslandFigures) → Between 1 (j .held .streams) n → streamNumbered j n .kind ≡ Island i → hasPedestrianOrTram j ≡ true
+  pub by-33-same : hasPedestrianOrTram (withoutIslands j) ≡ hasPedestrianOrTram j
   -- the number of phases, and cars, y and M of each, stay
   pub phases : phaseCount (withoutIslands j) ≡ phaseCount j
   pub cars : (f : ℕ) → hasCars (withoutIslands j) f ≡ hasCars j f
@@ -79,7 +79,7 @@ record Alike (k : Kind) : Type 0 where
   reaches : (r : ℕ) → reaching (plain k) r ≡ reaching k r
   saturation : kindSaturation (plain k) ≡ kindSaturation k
   car : isCar (plain k) ≡ isCar k
-  mixed : isPedestrianOrTram (plain k) ≡ isPedestrianOrTram k
+  by-33 : isPedestrianOrTram (plain k) ≡ isPedestrianOrTram k
   need : (cycle : ℕ) → kindNeed cycle (plain k) ≤ kindNeed cycle k
 
 unchanged : (k : Kind) → plain k ≡ k → Alike k
@@ -89,7 +89,7 @@ unchanged k e =
       reaches = λ r. rw e;
       saturation = rw e;
       car = rw e;
-      mixed = rw e;
+      by-33 = rw e;
       need = λ cycle. rw e (le-refl _);
     }
 
@@ -100,15 +100,11 @@ alike (Tram t) = unchanged (Tram t) refl
 alike (Pedestrian p) = unchanged (Pedestrian p) refl
 alike (Cyclist y) = unchanged (Cyclist y) refl
 alike (Island i) =
-    record { leaves = λ l. refl; reaches = λ r. refl; saturation = refl; car = refl; mixed = refl; need = λ cycle. le-max-left _ _ }
+    record { leaves = λ l. refl; reaches = λ r. refl; saturation = refl; car = refl; by-33 = refl; need = λ cycle. le-max-left _ _ }
 
 entry-plain : (s t : Stream) (clearing reach : ℕ) → entry (plainStream s) (plainStream t) clearing reach ≡ entry s t clearing reach
 unfolding entry
 entry-plain s t clearing reach = rw (alike (s .kind) .leaves clearing, alike (t .kind) .reaches reach)
-
-never : (t : Bool) → (t && false) ≡ false
-never true = refl
-never false = refl
 
 module _ (j : Junction) where
   place-plain : (i : ℕ) → streamAt (withoutIslands j) i ≡ plainStream (streamAt j i)
@@ -159,10 +155,10 @@ module _ (j : Junction) where
   unfolding wholeVerdict whole phasesRight phaseFollows countsVerdict
   whole-plain size = simp (phase-used-plain, first-car-plain, first-lacking-plain)
 
-  mixed-plain : hasPedestrianOrTram (withoutIslands j) ≡ hasPedestrianOrTram j
+  by-33-plain : hasPedestrianOrTram (withoutIslands j) ≡ hasPedestrianOrTram j
   unfolding hasPedestrianOrTram
-  mixed-plain =
-      ap (leb 1) (largest-same _ _ (j .held .streams) (λ i low. rw (stream-plain (i + 1), alike (streamNumbered j (i + 1) .kind) .mixed)))
+  by-33-plain =
+      ap (leb 1) (largest-same _ _ (j .held .streams) (λ i low. rw (stream-plain (i + 1), alike (streamNumbered j (i + 1) .kind) .by-33)))
 
   in-plain : (f n : ℕ) → isIn (withoutIslands j) f n ≡ isIn j f n
   unfolding isIn
@@ -217,11 +213,11 @@ module _ (j : Junction) where
 
   no-count-plain : (n : ℕ) (i : IslandFigures) → streamNumbered j n .kind ≡ Island i → countRefers j n ≡ false
   unfolding countRefers carRefers
-  no-count-plain n i is = rw is (never (numbered (j .held .streams) n))
+  no-count-plain n i is = rw is (and-false (numbered (j .held .streams) n))
 
-  mixed-there : (n : ℕ) (i : IslandFigures) → Between 1 (j .held .streams) n → streamNumbered j n .kind ≡ Island i
+  by-33-there : (n : ℕ) (i : IslandFigures) → Between 1 (j .held .streams) n → streamNumbered j n .kind ≡ Island i
       → hasPedestrianOrTram j ≡ true
-  mixed-there n i range is =
+  by-33-there n i range is =
       by-test (hasPedestrianOrTram j) (λ e. e)
       (λ e. absurd (true≢false (sym (ap isPedestrianOrTram is) ∙ pedestrian-or-tram-none j .0 e n range)))
 
@@ -239,8 +235,8 @@ as-pedestrian j =
       no-count = no-count-plain j;
       counts = counts-plain j;
       whole-file = whole-plain j;
-      mixed = mixed-there j;
-      mixed-same = mixed-plain j;
+      by-33 = by-33-there j;
+      by-33-same = by-33-plain j;
       phases = count-plain j;
       cars = cars-plain j;
       ratios = ratios-plain j;

@@ -10,17 +10,17 @@ heading = 1 ∷ 0 ∷ 4 ∷ 0 ∷ 7 ∷ 35 ∷ 40 ∷ []
 unfoldable pub car : ℕ → List ℕ
 car amber = 2 ∷ 0 ∷ 13 ∷ 1 ∷ 1 ∷ amber ∷ 0 ∷ 0 ∷ 0 ∷ 1 ∷ 94 ∷ 1 ∷ 10 ∷ 2 ∷ 0 ∷ 0 ∷ []
 
--- a pedestrian of phase 2: speed 12, crossing 70, 200 people, reach uncounted, undisturbed
-unfoldable pub pedestrian : List ℕ
-pedestrian = 2 ∷ 0 ∷ 9 ∷ 3 ∷ 2 ∷ 12 ∷ 0 ∷ 70 ∷ 0 ∷ 200 ∷ 0 ∷ 0 ∷ []
-
--- the same over an island, with wider carriageway, island and packet, all below 256
-unfoldable pub island : ℕ → ℕ → ℕ → List ℕ
-island wider between packet = 2 ∷ 0 ∷ 15 ∷ 5 ∷ 2 ∷ 12 ∷ 0 ∷ 70 ∷ 0 ∷ 200 ∷ 0 ∷ 0 ∷ 0 ∷ wider ∷ 0 ∷ between ∷ 0 ∷ packet ∷ []
-
--- a stream of a kind with the length of a pedestrian
+-- a stream of phase 2 with a kind, and the rest of a pedestrian: speed 12, crossing 70, 200 people, reach uncounted, undisturbed
 unfoldable pub ofKind : ℕ → List ℕ
 ofKind kind = 2 ∷ 0 ∷ 9 ∷ kind ∷ 2 ∷ 12 ∷ 0 ∷ 70 ∷ 0 ∷ 200 ∷ 0 ∷ 0 ∷ []
+
+unfoldable pub pedestrian : List ℕ
+unfolding ofKind
+pedestrian = ofKind 3
+
+-- a pedestrian over an island, with wider carriageway, island and packet, all below 256
+unfoldable pub island : ℕ → ℕ → ℕ → List ℕ
+island wider between packet = 2 ∷ 0 ∷ 15 ∷ 5 ∷ 2 ∷ 12 ∷ 0 ∷ 70 ∷ 0 ∷ 200 ∷ 0 ∷ 0 ∷ 0 ∷ wider ∷ 0 ∷ between ∷ 0 ∷ packet ∷ []
 
 -- a cyclist of a phase, with the byte that says whether its reach is counted
 unfoldable pub cyclist : ℕ → ℕ → List ℕ
