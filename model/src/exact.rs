@@ -112,6 +112,11 @@ impl Time {
         }
     }
 
+    /// The larger of the two times.
+    pub fn max(self, other: Time) -> Time {
+        if self.no_later_than(other) { other } else { self }
+    }
+
     /// For tests only: about how much it is.
     pub fn about(self) -> f64 {
         let f = |v: Fraction| v.upper as f64 / v.lower as f64;

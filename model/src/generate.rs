@@ -5,7 +5,7 @@ use crate::exact::whole;
 use crate::junction::*;
 use crate::plan::{Green, Plan};
 use crate::random::Random;
-use crate::times::Entries;
+use crate::times::{accelerating, Entries};
 use crate::work_out::work_out;
 
 // ---- junctions
@@ -90,7 +90,8 @@ pub fn make_junction(r: &mut Random, phases: i64, streams: i64, zones: i64, coun
     junction
 }
 
-fn random_kind(r: &mut Random, roots: bool, must_be_car: bool) -> Kind {
+/// Figures of any kind, or, where `roots` says so, of a standing car or a stop tram.
+pub fn random_kind(r: &mut Random, roots: bool, must_be_car: bool) -> Kind {
     let which = if must_be_car { 1 } else if roots { r.pick(&[1, 2, 2]) } else { r.pick(&[1, 1, 1, 2, 3, 3, 4, 5, 5]) };
     match which {
         1 => {
@@ -117,7 +118,7 @@ fn random_kind(r: &mut Random, roots: bool, must_be_car: bool) -> Kind {
         }
         2 => Kind::Tram(Tram {
             from_stop: roots || r.one_in(2),
-            length: if r.one_in(2) { r.pick(&[100, 300, 325, 600]) } else { r.from_to(100, 600) as u16 },
+            length: if r.one_in(2) { r.pick(&[100, 217, 218, 300, 320, 325, 445, 580, 600]) } else { r.from_to(100, 600) as u16 },
             trams_an_hour: r.from_to(1, 34) as u8,
         }),
         3 => Kind::Pedestrian(random_pedestrian(r)),
@@ -156,35 +157,63 @@ pub fn random_island(r: &mut Random) -> IslandCrossing {
 /// Clearing distance of the one that leaves, reaching distance of the one that comes: often such that a time is a
 /// whole second, or that two roots are equal, or one decimetre beside that.
 fn distances(r: &mut Random, leaves: &Kind, comes: &Kind, scale: i64) -> (u16, u16) {
-    let mut l = r.from_to(0, scale);
-    let mut d = r.from_to(0, scale);
+    let l = clearing_distance(r, leaves, scale).clamp(0, 999);
+    let d = reaching_distance(r, leaves, l, comes, scale).clamp(0, 999);
+    (l as u16, d as u16)
+}
+
+fn clearing_distance(r: &mut Random, leaves: &Kind, scale: i64) -> i64 {
     let k = r.from_to(0, 14);
-    if r.one_in(2) {
-        l = match leaves {
-            Kind::Car(c) if c.radius == 0 => 100 * (k % 10) + 40,
-            Kind::Car(c) if c.radius > 150 => 70 * k + 10,
-            Kind::Car(_) => 50 * k + 40,
-            Kind::Tram(t) if t.from_stop => 5 * k * k - t.length as i64,
-            Kind::Tram(_) => l,
-            Kind::Pedestrian(p) | Kind::Island(IslandCrossing { walk: p, .. }) => p.speed as i64 * k,
-            Kind::Cyclist(_) => 40 * k,
-        } + r.pick(&[0, 0, -1, 1]);
+    let beside = r.pick(&[0, 0, -1, 1]);
+    beside + match leaves {
+        Kind::Tram(t) if t.from_stop && r.one_in(3) => beyond_400(r, t),
+        _ if r.one_in(2) => r.from_to(0, scale),
+        Kind::Car(c) if c.radius == 0 => 100 * (k % 10) + 40,
+        Kind::Car(c) if c.radius > 150 => 70 * k + 10,
+        Kind::Car(_) => 50 * k + 40,
+        Kind::Tram(t) if t.from_stop => 5 * k * k - t.length as i64,
+        Kind::Tram(_) => r.from_to(0, scale),
+        Kind::Pedestrian(p) | Kind::Island(IslandCrossing { walk: p, .. }) => p.speed as i64 * k,
+        Kind::Cyclist(_) => 40 * k,
     }
-    let l = l.clamp(0, 999);
+}
+
+/// Clearing distance of a stop tram beyond 400 dm: often where the floor begins, decides or ends, or where (11') is about a
+/// whole second or 0.1 s more.
+fn beyond_400(r: &mut Random, tram: &Tram) -> i64 {
+    let floor_ends = floor_ends(tram).max(401);
+    match r.from_to(1, 7) {
+        1 => 401,
+        2 => floor_ends,
+        3 | 4 => r.from_to(401, floor_ends),
+        5 => r.pick(&[499, 610, 721]),
+        6 => r.pick(&[511, 622, 733]),
+        _ => r.from_to(401, 740),
+    }
+}
+
+/// The greatest clearing distance at which (11') is below the floor: for tests, so that a rounded root is enough.
+fn floor_ends(tram: &Tram) -> i64 {
+    400 + (111.0 * (accelerating(tram, 400).about() - 11.1)).floor() as i64
+}
+
+fn reaching_distance(r: &mut Random, leaves: &Kind, l: i64, comes: &Kind, scale: i64) -> i64 {
     let k = r.from_to(1, 14);
-    if r.one_in(2) {
-        d = match (leaves, comes) {
-            // (l + t)/5 = (r + 15)/10, and (l + t)/5 = (r + 15)/5
-            (Kind::Tram(t), Kind::Car(_)) if t.from_stop && r.one_in(3) => 2 * (l + t.length as i64) - 15,
-            (Kind::Tram(t), Kind::Tram(u)) if t.from_stop && u.from_stop && r.one_in(3) => l + t.length as i64 - 15,
-            (_, Kind::Car(c)) if !c.flying => 10 * k * k - 15,
-            (_, Kind::Tram(t)) if t.from_stop => 5 * k * k - 15,
-            (_, Kind::Car(_) | Kind::Tram(_)) => d,
-            (_, Kind::Pedestrian(_) | Kind::Island(_)) => 15 * k,
-            (_, Kind::Cyclist(_)) => 50 * k,
-        } + r.pick(&[0, 0, -1, 1]);
+    let beside = r.pick(&[0, 0, -1, 1]);
+    beside + match (leaves, comes) {
+        _ if r.one_in(2) => r.from_to(0, scale),
+        // (l + t)/5 = (r + 15)/10, and (l + t)/5 = (r + 15)/5; beyond 400 with the floor's 400
+        (Kind::Tram(t), Kind::Car(_)) if t.from_stop && r.one_in(3) => 2 * (l.min(400) + t.length as i64) - 15,
+        (Kind::Tram(t), Kind::Tram(u)) if t.from_stop && u.from_stop && r.one_in(3) => l.min(400) + t.length as i64 - 15,
+        (_, Kind::Car(c)) if !c.flying => 10 * k * k - 15,
+        (_, Kind::Tram(u)) if u.from_stop => 5 * k * k - 15,
+        // 9r/1000 = 8.1, and r/50 with 0.1 s more than whole seconds, as (11') has at 511, 622 and 733
+        (Kind::Tram(t), Kind::Car(_) | Kind::Tram(_)) if t.from_stop && l > 400 => 900,
+        (Kind::Tram(t), Kind::Cyclist(_)) if t.from_stop && l > 400 && r.one_in(2) => 50 * k + 5,
+        (_, Kind::Car(_) | Kind::Tram(_)) => r.from_to(0, scale),
+        (_, Kind::Pedestrian(_) | Kind::Island(_)) => 15 * k,
+        (_, Kind::Cyclist(_)) => 50 * k,
     }
-    (l as u16, d.clamp(0, 999) as u16)
 }
 
 // ---- plans

@@ -1,7 +1,7 @@
 //! "Times at a zone": leaving, reaching and the entry from one stream to another.
 
 use crate::exact::{fraction, whole, Time};
-use crate::junction::{IslandCrossing, Junction, Kind};
+use crate::junction::{IslandCrossing, Junction, Kind, Tram};
 
 /// Leaving time after the green's end, with clearing distance l in dm.
 pub fn leaving(kind: &Kind, l: u16) -> Time {
@@ -18,21 +18,31 @@ pub fn leaving(kind: &Kind, l: u16) -> Time {
             // (9'): raised to amber + 1 if lower
             Time::plain(by_formula.max(whole(car.amber as i128 + 1)))
         }
-        Kind::Tram(tram) => {
-            let t = tram.length as i128;
-            if !tram.from_stop {
-                Time::plain(fraction(51, 10) + fraction(9 * (l + t), 1000)) // (3), (10)
-            } else if l <= 400 {
-                Time::root(fraction(l + t, 5)) // (11)
+        Kind::Tram(tram) if tram.from_stop => {
+            if l <= 400 {
+                accelerating(tram, l) // (11)
             } else {
-                Time::plain(fraction(111, 10) + fraction(l - 400, 111)) // (11')
+                at_full_speed(l).max(accelerating(tram, 400)) // the larger of (11') and (11) taken at 400
             }
+        }
+        Kind::Tram(tram) => {
+            Time::plain(fraction(51, 10) + fraction(9 * (l + tram.length as i128), 1000)) // (3), (10)
         }
         Kind::Pedestrian(p) | Kind::Island(IslandCrossing { walk: p, .. }) => {
             Time::plain(fraction(l, p.speed as i128)) // (12)
         }
         Kind::Cyclist(_) => Time::plain(whole(1) + fraction(l, 40)), // (12')
     }
+}
+
+/// (11): a tram from a stop, with acceleration all the way. Taken at 400 it is the floor under (11') (request 2026-02).
+pub fn accelerating(tram: &Tram, l: i128) -> Time {
+    Time::root(fraction(l + tram.length as i128, 5))
+}
+
+/// (11'): a tram from a stop, beyond 400 dm.
+pub fn at_full_speed(l: i128) -> Time {
+    Time::plain(fraction(111, 10) + fraction(l - 400, 111))
 }
 
 /// Reaching time after the green's start, with reaching distance r in dm.
@@ -55,26 +65,26 @@ pub fn reaching(kind: &Kind, r: u16) -> Time {
 /// Entry from stream i to stream j (19), streams counted from 1: the least whole number, not below 0, that is at least
 /// leaving of i minus reaching of j at each zone of the pair. Found by counting up from 0.
 pub fn entry(junction: &Junction, i: usize, j: usize) -> i128 {
+    let times: Vec<(Time, Time)> = zone_distances(junction, i, j)
+        .map(|(l, r)| (leaving(&junction.stream(i).kind, l), reaching(&junction.stream(j).kind, r)))
+        .collect();
     let mut n = 0;
-    while !enough(junction, i, j, n) {
+    while !times.iter().all(|(leaves, reaches)| leaves.no_later_than(reaches.later(n))) {
         n += 1;
     }
     n
 }
 
-/// Is n at least leaving of i minus reaching of j at each zone of the pair?
-fn enough(junction: &Junction, i: usize, j: usize, n: i128) -> bool {
-    junction.zones.iter().all(|zone| {
-        let (clearing_i, reaching_j) = if (zone.a as usize, zone.b as usize) == (i, j) {
-            (zone.clearing_a, zone.reaching_b)
+/// Clearing distance of i and reaching distance of j, at each zone of the pair.
+pub fn zone_distances(junction: &Junction, i: usize, j: usize) -> impl Iterator<Item = (u16, u16)> + '_ {
+    junction.zones.iter().filter_map(move |zone| {
+        if (zone.a as usize, zone.b as usize) == (i, j) {
+            Some((zone.clearing_a, zone.reaching_b))
         } else if (zone.a as usize, zone.b as usize) == (j, i) {
-            (zone.clearing_b, zone.reaching_a)
+            Some((zone.clearing_b, zone.reaching_a))
         } else {
-            return true; // a zone of another pair
-        };
-        let leaves = leaving(&junction.stream(i).kind, clearing_i);
-        let reaches = reaching(&junction.stream(j).kind, reaching_j);
-        leaves.no_later_than(reaches.later(n))
+            None // a zone of another pair
+        }
     })
 }
 

@@ -3,12 +3,13 @@ mod calls;
 use calls::*;
 use givendra_sys::{JunctionAnswer, PlanAnswer, GIVENDRA_RELEASE};
 use model::annex::{crossing_quotient, need as model_need, packet_quotient, saturation, y_of, TABLE_3};
+use model::exact::Time;
 use model::faults::*;
 use model::generate::*;
 use model::judge::rules;
 use model::junction::{Junction, Kind};
 use model::random::{seed, Random};
-use model::times::Entries;
+use model::times::{accelerating, at_full_speed, leaving, reaching, zone_distances, Entries};
 use model::work_out::{search, write, Worked};
 use model::{meaning, read_plan, Plan, Refusal};
 
@@ -76,6 +77,9 @@ fn check_judging(hits: &mut Hits, junction: &Lent, plan: &Lent, known: &Known) {
     if known.read.as_ref().is_ok_and(|j| j.streams.iter().any(|s| island_column(&s.kind).is_some())) {
         hits.hit("judge, islands", model.refusal);
     }
+    if known.read.as_ref().is_ok_and(has_floor) {
+        hits.hit("judge, floor", model.refusal);
+    }
 }
 
 /// The planner in a buffer of this size: answer, every byte of the buffer, and the bounds of the tried count.
@@ -94,6 +98,9 @@ fn check_working_out(r: &mut Random, hits: &mut Hits, junction: &Lent, size: usi
     same(&what, answer, PlanAnswer { place, refusal, cycle, tried, size: size_written }, junction.bytes(), &[]);
     same(&what, buffer.bytes(), &wanted[..], junction.bytes(), &[]);
     hits.hit("work_out", refusal);
+    if known.read.as_ref().is_ok_and(has_floor) {
+        hits.hit("work_out, floor", refusal);
+    }
 }
 
 /// Buffers one byte too short, exact, longer, and empty or of another size.
@@ -192,7 +199,8 @@ const PAIRS: usize = 250_000;
 #[test]
 fn files() {
     let mut r = Random::new(seed("files", 11));
-    let mut hits = Hits::new(&["judge", "judge, islands", "read_junction", "work_out"]);
+    let judges = ["judge", "judge, islands", "judge, floor"];
+    let mut hits = Hits::new(&[&judges[..], &["read_junction", "work_out", "work_out, floor"]].concat());
     let mut pairs = 0;
     while pairs < PAIRS {
         if r.one_in(8) {
@@ -221,10 +229,13 @@ fn files() {
     hits.at_least(1_000, "judge", &JUNCTION);
     hits.at_least(1_000, "judge", &[0, 11, 12, 13, 15, 16, 17]);
     hits.at_least(1_000, "judge, islands", &[0, 15, 16, 17]);
+    hits.at_least(1_000, "judge, floor", &[0, 15, 16, 17]);
     hits.at_least(1_000, "read_junction", &JUNCTION);
     hits.at_least(1_000, "read_junction", &[0]);
     hits.at_least(1_000, "work_out", &JUNCTION);
     hits.at_least(1_000, "work_out", &[0, 21, 22, 23]);
+    hits.at_least(1_000, "work_out, floor", &[0]);
+    hits.at_least(200, "work_out, floor", &[21, 22, 23]);
 }
 
 /// A junction file that is probably taken, with plans of every sort; the number of pairs.
@@ -253,7 +264,7 @@ fn check_with_plans(r: &mut Random, hits: &mut Hits, file: &[u8]) -> usize {
 #[test]
 fn judge_and_meaning() {
     let mut r = Random::new(seed("judge_and_meaning", 12));
-    let mut hits = Hits::new(&["judge", "worked out"]);
+    let mut hits = Hits::new(&["judge", "judge, floor", "worked out", "worked, floor"]);
     let mut pairs = 0;
     while pairs < 150_000 {
         let junction = if r.one_in(12) { limit_junction(&mut r) } else { rich_junction(&mut r) };
@@ -262,6 +273,10 @@ fn judge_and_meaning() {
         let lent = Lent::new(&mut r, &file);
         check_own_plan(&mut r, &lent, &known);
         hits.hit("worked out", number_and_place(&known.worked).0);
+        let floor = has_floor(&junction);
+        if floor {
+            hits.hit("worked, floor", number_and_place(&known.worked).0);
+        }
         for _ in 0..20 {
             let plan = some_plan(&mut r, &junction, &known);
             let plan_file = plan.to_file();
@@ -270,13 +285,18 @@ fn judge_and_meaning() {
             same("judge against the meaning", answer.refusal == 0, allowed, &file, &plan_file);
             same("judge", answer, judged(known.judge(&plan_file)), &file, &plan_file);
             hits.hit("judge", answer.refusal);
+            if floor {
+                hits.hit("judge, floor", answer.refusal);
+            }
             pairs += 1;
         }
     }
     println!("{pairs} pairs of junction and well-formed plan");
     hits.print();
     hits.at_least(5_000, "judge", &[0, 15, 16, 17]);
+    hits.at_least(1_000, "judge, floor", &[0, 15, 16, 17]);
     hits.at_least(5_000, "worked out", &[0]);
+    hits.at_least(500, "worked, floor", &[0]);
 }
 
 // ---- figures
@@ -323,6 +343,48 @@ fn island_column(kind: &Kind) -> Option<&'static str> {
     }
 }
 
+const BY_FLOOR: &str = "zones by floor";
+
+/// For a stop tram that clears l, the column of its leaving time, by the formula that decides it.
+fn stop_tram_column(kind: &Kind, l: u16) -> Option<&'static str> {
+    match kind {
+        Kind::Tram(t) if t.from_stop && l <= 400 => Some("zones by (11)"),
+        Kind::Tram(t) if t.from_stop && accelerating(t, 400).no_later_than(at_full_speed(l as i128)) => Some("zones by (11')"),
+        Kind::Tram(t) if t.from_stop => Some(BY_FLOOR),
+        Kind::Car(_) | Kind::Tram(_) | Kind::Pedestrian(_) | Kind::Cyclist(_) | Kind::Island(_) => None,
+    }
+}
+
+/// Does a stream leave a zone of this junction by the floor?
+fn has_floor(junction: &Junction) -> bool {
+    let by_floor = |s: u8, l: u16| stop_tram_column(&junction.stream(s as usize).kind, l) == Some(BY_FLOOR);
+    junction.zones.iter().any(|z| by_floor(z.a, z.clearing_a) || by_floor(z.b, z.clearing_b))
+}
+
+/// The leaving time of document 01, before request 2026-02.
+fn leaving_without_floor(kind: &Kind, l: u16) -> Time {
+    if stop_tram_column(kind, l) == Some(BY_FLOOR) { at_full_speed(l as i128) } else { leaving(kind, l) }
+}
+
+/// Would one second less be enough if (11') had no floor?
+fn raised_by_floor(junction: &Junction, from: usize, to: usize, entry: u32) -> bool {
+    let (leaves, reaches) = (&junction.stream(from).kind, &junction.stream(to).kind);
+    let one_less = |(l, r)| leaving_without_floor(leaves, l).no_later_than(reaching(reaches, r).later(entry as i128 - 1));
+    entry > 0 && zone_distances(junction, from, to).all(one_less)
+}
+
+/// The zones at which a stop tram leaves, by formula, and the entries that are greater by the floor.
+fn count_stop_trams(hits: &mut Hits, junction: &Junction, from: usize, to: usize, entry: u32) {
+    for (l, _) in zone_distances(junction, from, to) {
+        if let Some(column) = stop_tram_column(&junction.stream(from).kind, l) {
+            hits.hit(column, 0);
+        }
+    }
+    if raised_by_floor(junction, from, to, entry) {
+        hits.hit("raised by floor", 0);
+    }
+}
+
 fn model_need_of(junction: &Junction, stream: usize, cycle: u16) -> Result<u32, Refusal> {
     let kind = known_stream(junction, stream)?;
     if cycle < 1 || cycle > 180 {
@@ -347,6 +409,9 @@ fn check_figures(r: &mut Random, hits: &mut Hits, file: &[u8], known: &Known) {
             let model = figure(model_intergreen(j, entries, from, to));
             same(&format!("intergreen from {from} to {to}"), intergreen(&lent, from, to), model, file, &[]);
             hits.hit("intergreen", model.refusal);
+            if model.refusal == 0 {
+                count_stop_trams(hits, j, from, to, model.value);
+            }
         }
         let exists = (1..=j.streams.len()).contains(&from);
         for cycle in if exists { cycles(r) } else { vec![0, 50, 181] } {
@@ -384,7 +449,9 @@ fn check_refused_figures(r: &mut Random, hits: &mut Hits, file: &[u8], refusal: 
 fn figures() {
     let mut r = Random::new(seed("figures", 13));
     let needs = ["need", "need by packet", "need by crossing"];
-    let mut hits = Hits::new(&[&["intergreen"], &needs[..], &["saturation_flow", "flow_ratio", "refused file"]].concat());
+    let stop_trams = ["zones by (11)", "zones by (11')", BY_FLOOR];
+    let others = ["saturation_flow", "flow_ratio", "refused file"];
+    let mut hits = Hits::new(&[&["intergreen"], &stop_trams[..], &["raised by floor"], &needs, &others].concat());
     for _ in 0..5_000 {
         let file = if r.one_in(8) { limit_junction(&mut r) } else { rich_junction(&mut r) }.to_file();
         let file = if r.one_in(4) { at_the_limits(&mut r, &file) } else { file };
@@ -404,6 +471,10 @@ fn figures() {
     for name in ["intergreen", "need", "saturation_flow", "flow_ratio"] {
         hits.at_least(1_000, name, &[0, 7]);
     }
+    for name in stop_trams {
+        hits.at_least(3_000, name, &[0]);
+    }
+    hits.at_least(500, "raised by floor", &[0]);
     for name in needs {
         hits.at_least(1_000, name, &[0, 13]);
     }

@@ -4,7 +4,7 @@ use model::exact::{fraction, whole, Time};
 use model::faults::*;
 use model::generate::*;
 use model::judge::rules;
-use model::junction::{read_junction, two, IslandCrossing, Junction, Kind, Stream};
+use model::junction::{read_junction, two, IslandCrossing, Junction, Kind, Stream, Tram, Zone};
 use model::meaning::meaning_over;
 use model::random::{seed, Random};
 use model::times::{entry, leaving, reaching, Entries};
@@ -21,6 +21,7 @@ fn judge_accepts_exactly_what_the_meaning_allows() {
     let mut answers: BTreeMap<u8, usize> = BTreeMap::new();
     let (mut pairs, mut junctions, mut worked_out, mut wrapped) = (0, 0, 0, 0);
     let (mut accepted_islands, mut short_islands) = (0, 0);
+    let (mut accepted_floors, mut refused_floors) = (0, 0);
     while pairs < 240_000 {
         let junction = if r.one_in(12) { limit_junction(&mut r) } else { rich_junction(&mut r) };
         let file = junction.to_file();
@@ -62,17 +63,24 @@ fn judge_accepts_exactly_what_the_meaning_allows() {
                 Err(Refusal { number: 15, place }) if is_island(junction.stream(place)) => short_islands += 1,
                 _ => {}
             }
+            match judged {
+                Ok(()) if junction.zones.iter().any(|z| has_floor(&junction, z)) => accepted_floors += 1,
+                Err(Refusal { number: 17, place }) if has_floor(&junction, &junction.zones[place - 1]) => refused_floors += 1,
+                _ => {}
+            }
             pairs += 1;
         }
     }
     println!("{pairs} pairs, {junctions} junctions, {worked_out} worked out, accepted and past the end {wrapped}, answers {answers:?}");
     println!("accepted with an island {accepted_islands}, refused for an island's need {short_islands}");
+    println!("accepted with a zone by the floor {accepted_floors}, refused for one {refused_floors}");
     // the test says something only if all answers come often
     for number in [0, 15, 16, 17] {
         assert!(answers[&number] > 5_000, "{answers:?}");
     }
     assert!(wrapped > 5_000 && worked_out > 2_000);
     assert!(accepted_islands > 5_000 && short_islands > 1_000);
+    assert!(accepted_floors > 5_000 && refused_floors > 1_000);
 }
 
 #[test]
@@ -445,4 +453,123 @@ fn aimed_at_islands() {
     assert!(hits[&(4, true)] > 1_000 && hits[&(5, true)] > 1_000 && hits[&(5, false)] > 500, "{hits:?}");
     // of an unknown kind the length is not judged
     assert_eq!(hits.get(&(4, false)), None);
+}
+
+// ---- trams past forty metres
+
+/// Is the floor above (11') for a stop tram of length t? In whole numbers: (11') is (10 l + 8,321)/1,110, and the floor is
+/// the root of (400 + t)/5.
+fn floor_decides(t: u16, l: u16) -> bool {
+    let upper = 10 * l as u64 + 8_321;
+    5 * upper * upper < 1_110 * 1_110 * (400 + t as u64)
+}
+
+/// By what this kind leaves.
+fn leaves_by(kind: &Kind, l: u16) -> &'static str {
+    match kind {
+        Kind::Tram(t) if t.from_stop && l <= 400 => "(11)",
+        Kind::Tram(t) if t.from_stop && floor_decides(t.length, l) => "floor",
+        Kind::Tram(t) if t.from_stop => "(11')",
+        Kind::Tram(_) => "running tram",
+        Kind::Car(_) => "car",
+        Kind::Pedestrian(_) => "pedestrian",
+        Kind::Cyclist(_) => "cyclist",
+        Kind::Island(_) => "island",
+    }
+}
+
+/// By what both streams of a zone leave it.
+fn zone_left_by(junction: &Junction, zone: &Zone) -> [&'static str; 2] {
+    [(zone.a, zone.clearing_a), (zone.b, zone.clearing_b)].map(|(s, l)| leaves_by(&junction.stream(s as usize).kind, l))
+}
+
+fn has_floor(junction: &Junction, zone: &Zone) -> bool {
+    zone_left_by(junction, zone).contains(&"floor")
+}
+
+/// Every stop tram beyond 400 dm: its leaving time is at least (11'), at least (11) at 400, and one of them.
+#[test]
+fn floor_or_11_prime() {
+    let mut decided: BTreeMap<&str, usize> = BTreeMap::new();
+    for length in 100..=600 {
+        let kind = Kind::Tram(Tram { from_stop: true, length, trams_an_hour: 10 });
+        let floor = Time::root(fraction(400 + length as i128, 5));
+        for l in 401..=999 {
+            let (time, by) = (leaving(&kind, l), leaves_by(&kind, l));
+            let formula = Time::plain(fraction(10 * l as i128 + 8_321, 1_110));
+            assert!(floor.no_later_than(time) && formula.no_later_than(time), "length {length}, l {l}");
+            assert_eq!(time, if by == "floor" { floor } else { formula }, "length {length}, l {l}");
+            let about = (80.0 + length as f64 / 5.0).sqrt().max(11.1 + (l as f64 - 400.0) / 111.0);
+            assert!((time.about() - about).abs() < 1e-9, "length {length}, l {l}");
+            *decided.entry(by).or_default() += 1;
+        }
+    }
+    println!("{decided:?}");
+    assert!(decided["floor"] > 50_000 && decided["(11')"] > 50_000, "{decided:?}");
+}
+
+/// Two clearing distances, the shorter first: often one decimetre apart, often about 400.
+fn two_clearings(r: &mut Random) -> (u16, u16) {
+    let l = if r.one_in(2) { r.from_to(380, 740) } else { r.from_to(0, 998) };
+    let longer = match r.from_to(1, 4) {
+        1 => l + 1,
+        2 => r.from_to(l + 1, (l + 40).min(999)),
+        _ => r.from_to(l + 1, 999),
+    };
+    (l as u16, longer as u16)
+}
+
+/// With a longer clearing distance no kind leaves sooner, and no entry to any stream at any reaching distance is less.
+#[test]
+fn further_is_never_sooner() {
+    let mut r = Random::new(seed("further_is_never_sooner", 17));
+    let mut sorts: BTreeMap<(&str, &str), usize> = BTreeMap::new();
+    let mut greater = 0;
+    for _ in 0..60_000 {
+        let roots = r.one_in(2);
+        let kinds = [random_kind(&mut r, roots, false), random_kind(&mut r, false, false)];
+        let streams = vec![Stream { phase: 1, kind: kinds[0] }, Stream { phase: 2, kind: kinds[1] }];
+        let (l, longer) = two_clearings(&mut r);
+        let reaching_b = r.from_to(0, 999) as u16;
+        let zone = Zone { a: 1, b: 2, clearing_a: l, reaching_a: 0, clearing_b: 0, reaching_b };
+        let near = Junction { number: 7, design_day: 9000, streams, zones: vec![zone], counts: vec![] };
+        let far = Junction { zones: vec![Zone { clearing_a: longer, ..zone }], ..near.clone() };
+        assert!(leaving(&kinds[0], l).no_later_than(leaving(&kinds[0], longer)), "{kinds:?}, {l} and {longer}");
+        let (sooner, later) = (entry(&near, 1, 2), entry(&far, 1, 2));
+        assert!(sooner <= later, "{kinds:?}, {l} and {longer}: {sooner} and {later}");
+        greater += (sooner < later) as usize;
+        *sorts.entry((leaves_by(&kinds[0], l), leaves_by(&kinds[0], longer))).or_default() += 1;
+    }
+    println!("{greater} entries greater, {sorts:?}");
+    assert!(greater > 10_000);
+    // running trams and the four other kinds; of stop trams each formula and each change from one to another
+    assert_eq!(sorts.len(), 5 + 6);
+    for (sort, times) in &sorts {
+        assert!(*times > 300, "{sort:?} came {times} times");
+    }
+}
+
+/// Random junctions have zones that a stop tram leaves by every formula, and those with the floor are often worked out.
+#[test]
+fn floors_come_often() {
+    let mut r = Random::new(seed("floors_come_often", 18));
+    let mut zones: BTreeMap<&str, usize> = BTreeMap::new();
+    let mut answers: BTreeMap<u8, usize> = BTreeMap::new();
+    for _ in 0..4_000 {
+        let junction = rich_junction(&mut r);
+        for zone in &junction.zones {
+            for by in zone_left_by(&junction, zone) {
+                *zones.entry(by).or_default() += 1;
+            }
+        }
+        if junction.zones.iter().any(|z| has_floor(&junction, z)) {
+            let answer = work_out(&junction.to_file(), &mut [0; 133]);
+            *answers.entry(answer.err().map_or(0, |e| e.number)).or_default() += 1;
+        }
+    }
+    println!("zones left {zones:?}, worked out with a floor {answers:?}");
+    for by in ["(11)", "(11')", "floor"] {
+        assert!(zones[by] > 2_000, "{zones:?}");
+    }
+    assert!(answers[&0] > 300, "{answers:?}");
 }

@@ -1,12 +1,13 @@
-//! Every example of the readings that concerns the base, and what request 2026-01 adds to it.
+//! Every example of the readings that concerns the base, and what requests 2026-01 and 2026-02 add to it.
 mod common;
 use common::*;
 use model::annex::need;
 use model::cases::bytes_of;
+use model::exact::{fraction, Time};
 use model::junction::*;
 use model::times::{entry, leaving, reaching, Entries};
 use model::work_out::{first_length, lost_time, phases, plan_for};
-use model::{judge, read_junction, work_out, Refusal};
+use model::{judge, meaning, read_junction, read_plan, work_out, Refusal};
 use std::ops::Range;
 
 fn reads(text: &str) -> Result<(), Refusal> {
@@ -127,10 +128,10 @@ fn times_and_entries() {
     // a straight car with shares leaves as straight
     let shares = junction(&[car(1, Car { left: 50, ..CAR }), cyclist(2)], &[zone(1, 2, 140, 0, 0, 0)], &[]);
     assert_eq!(entry(&shares, 1, 2), 5);
-    // (11') has no tram length in it
-    for length in [100, 600] {
+    // (11') has no tram length in it: 12.1; the floor under it has, since 2026-02: root of 500/5 = 10, of 1,000/5 = 14.14
+    for (length, seconds) in [(100, 13), (600, 15)] {
         let j = junction(&[tram(1, true, length, 10), cyclist(2)], &[zone(1, 2, 511, 0, 0, 0)], &[]);
-        assert_eq!(entry(&j, 1, 2), 13);
+        assert_eq!(entry(&j, 1, 2), seconds);
     }
     // a pair without a zone
     let none = Junction { zones: vec![], ..whole_case() };
@@ -407,4 +408,194 @@ fn working_out_with_an_island() {
     assert_eq!((worked.first_length, worked.cycle, worked.tried), (57, 57, 1));
     assert_eq!(buffer[..], plan_file(57, &[(0, 38), (43, 10)]));
     assert_eq!(judge(&bytes_of(ISLAND_CASE), &buffer), Ok(()));
+}
+
+// ---- request 2026-02: trams past forty metres
+
+/// A tram's length t, and the last clearing distance l at which the floor decides (400: at none). (11') is
+/// 11.1 + (l - 400)/111 = (10 l + 8,321)/1,110, and the floor is the root of (400 + t)/5. So the floor decides where
+/// (10 l + 8,321) squared is below 1,110 x 1,110/5 x (400 + t) = 246,420 x (400 + t). They are never equal: that asks for
+/// a whole root k, and 10 l + 8,321 = 1,110 k ends in 1 on the one side and in 0 on the other.
+const FLOOR_ENDS: [(u16, u16); 10] = [
+    // the root is 10, 10.1 and 11: below 11.1
+    (100, 400),
+    (110, 400),
+    (205, 400),
+    // 246,420 x 617 = 152,041,140; l 401: 12,331 squared = 152,053,561 is above
+    (217, 400),
+    // 246,420 x 618 = 152,287,560; 152,053,561 is below; l 402: 12,341 squared = 152,300,281 is above
+    (218, 401),
+    // the root of 144 is 12 = 13,320/1,110; l 499: 13,311; l 500: 13,321
+    (320, 499),
+    // 246,420 x 725 = 178,654,500; l 504: 13,361 squared = 178,516,321; l 505: 13,371 squared = 178,783,641
+    (325, 504),
+    // the root of 169 is 13 = 14,430/1,110; l 610: 14,421; l 611: 14,431
+    (445, 610),
+    // the root of 196 is 14 = 15,540/1,110; l 721: 15,531; l 722: 15,541
+    (580, 721),
+    // 246,420 x 1,000 = 246,420,000; l 737: 15,691 squared = 246,207,481; l 738: 15,701 squared = 246,521,401
+    (600, 737),
+];
+
+#[test]
+fn where_the_floor_ends() {
+    for (length, last) in FLOOR_ENDS {
+        let (stop, t) = (tram(1, true, length, 10).kind, length as i128);
+        for l in 0..=999u16 {
+            let time = match l {
+                0..=400 => Time::root(fraction(l as i128 + t, 5)),
+                _ if l <= last => Time::root(fraction(400 + t, 5)),
+                _ => Time::plain(fraction(10 * l as i128 + 8_321, 1_110)),
+            };
+            assert_eq!(leaving(&stop, l), time, "length {length}, l {l}");
+        }
+    }
+}
+
+/// The entry from a stop tram of this length, with this clearing distance, to this stream with this reaching distance.
+fn from_stop(length: u16, l: u16, to: Stream, r: u16) -> i128 {
+    entry(&junction(&[tram(1, true, length, 10), to], &[zone(1, 2, l, 0, 0, r)], &[]), 1, 2)
+}
+
+/// To an uncounted pedestrian, who reaches after 0 s: the length t, l and the entry.
+const TO_PEDESTRIAN: [(u16, u16, i128); 26] = [
+    // root of 500/5 = 10; (11') from l 401 on: 11.109, and no floor. The step upward at 401 stays
+    (100, 400, 10),
+    (100, 401, 12),
+    (100, 499, 12),
+    (100, 500, 13),
+    // root of 605/5 = 11; 11.109
+    (205, 400, 11),
+    (205, 401, 12),
+    // root of 719/5 = 11.99 and of 720/5 = 12 exactly; (11') at 499: 11.992, at 500: 12.0009
+    (319, 401, 12),
+    (320, 400, 12),
+    (320, 401, 12),
+    (320, 499, 12),
+    (320, 500, 13),
+    // root of 721/5 = 12.008
+    (321, 401, 13),
+    // root of 725/5 = 12.04; (11') at 505: 12.046, at 610: 12.992, at 611: 13.0009
+    (325, 400, 13),
+    (325, 401, 13),
+    (325, 504, 13),
+    (325, 505, 13),
+    (325, 611, 14),
+    // root of 845/5 = 13 exactly; at 611: 13.0009
+    (445, 401, 13),
+    (445, 610, 13),
+    (445, 611, 14),
+    // root of 1,000/5 = 14.14; (11') at 738: 14.145, at 832: 14.992, at 833: 15.0009, at 999: 16.496
+    (600, 401, 15),
+    (600, 511, 15),
+    (600, 738, 15),
+    (600, 832, 15),
+    (600, 833, 16),
+    (600, 999, 17),
+];
+
+/// To a standing car, which reaches after the root of (r + 15)/10, less 1: the length t, l, r and the entry.
+const TO_STANDING_CAR: [(u16, u16, u16, i128); 15] = [
+    // r 75: root of 9, less 1 = 2. 12 - 2 = 10 exactly; r 74: root of 8.9, less 1 = 1.98: 10.02. l 500: 12.0009 - 2
+    (320, 401, 75, 10),
+    (320, 401, 74, 11),
+    (320, 499, 75, 10),
+    (320, 500, 75, 11),
+    // 12.04 - 2 = 10.04; r 78: root of 9.3, less 1 = 2.0496: 9.992; r 77: root of 9.2, less 1 = 2.033: 10.008
+    (325, 401, 75, 11),
+    (325, 401, 77, 11),
+    (325, 401, 78, 10),
+    (325, 504, 78, 10),
+    // (11') at 505: 12.0459 - 2.0496 = 9.996, at 506: 12.055 - 2.0496 = 10.005
+    (325, 505, 78, 10),
+    (325, 506, 78, 11),
+    // 14.142 - 2 = 12.14; r 84: root of 9.9, less 1 = 2.146: 11.996; r 83: root of 9.8, less 1 = 2.130: 12.012
+    (600, 511, 75, 13),
+    (600, 511, 84, 12),
+    (600, 511, 83, 13),
+    // 11.109 - 2 = 9.1, no floor
+    (217, 401, 75, 10),
+    // r 985: root of 100, less 1 = 9: 12 - 9 = 3
+    (320, 401, 985, 3),
+];
+
+/// To a flying car, which reaches after 9r/1000: where a few thousandths of a second decide. The length t, l, r and the entry.
+const TO_FLYING_CAR: [(u16, u16, u16, i128); 17] = [
+    // r 124: 1.116. 11.10901 - 1.116 = 9.993; the floor of 218 is the root of 123.6 = 11.11755: 10.0016
+    (217, 401, 124, 10),
+    (218, 401, 124, 11),
+    // r 902: 8.118. 11.11755 - 8.118 = 2.9996; (11') at 402: 11.11802: 3.00002
+    (218, 401, 902, 3),
+    (218, 402, 902, 4),
+    // r 893: 8.037. The floor 12.0416: 4.005, where (11') at 504, 12.03694, would give 3.99994
+    (325, 504, 893, 5),
+    // r 5: 0.045. 12.0416: 11.997; (11') at 505, 12.0459: 12.0009
+    (325, 504, 5, 12),
+    (325, 505, 5, 13),
+    // r 460: 4.14. The floor 14.142: 10.002, where (11') at 737, 14.136, would give 9.996
+    (600, 737, 460, 11),
+    // r 16: 0.144. 14.142: 13.998; (11') at 738, 14.145: 14.001
+    (600, 737, 16, 14),
+    (600, 738, 16, 15),
+    // r 900: 8.1. (11') at 511 is 12.1: 4 exactly; r 899: 4.009
+    (325, 511, 900, 4),
+    (325, 511, 899, 5),
+    // (11') at 622 is 13.1: 5 exactly; the floor of 458 is the root of 171.6 = 13.0996, below; of 459 the root of 171.8 = 13.107
+    (458, 622, 900, 5),
+    (459, 622, 900, 6),
+    // (11') at 733 is 14.1: 6 exactly; the floor of 594 is the root of 198.8 = 14.09965, below; of 595 the root of 199 = 14.107
+    (594, 733, 900, 6),
+    (595, 733, 900, 7),
+    // 14.142 - 8.1 = 6.04
+    (600, 733, 900, 7),
+];
+
+/// To a stop tram, which reaches after the root of (r + 15)/5: the length t, l, r and the entry.
+const TO_STOP_TRAM: [(u16, u16, u16, i128); 7] = [
+    // the root of 1,000/5 on both sides; r 984: the root of 999/5, less; l 738: 14.145 is above 14.142
+    (600, 401, 985, 0),
+    (600, 737, 985, 0),
+    (600, 737, 984, 1),
+    (600, 738, 985, 1),
+    // r 110: root of 125/5 = 5: 14.142 - 5 = 9.14; 12 - 5 = 7 exactly; r 109: root of 124/5 = 4.98: 7.02
+    (600, 401, 110, 10),
+    (320, 401, 110, 7),
+    (320, 401, 109, 8),
+];
+
+#[test]
+fn entries_past_forty_metres() {
+    for (length, l, seconds) in TO_PEDESTRIAN {
+        assert_eq!(from_stop(length, l, walk(2, 70, 200, false), 0), seconds, "length {length}, l {l}");
+    }
+    for (length, l, r, seconds) in TO_STANDING_CAR {
+        assert_eq!(from_stop(length, l, car(2, CAR), r), seconds, "length {length}, l {l}, r {r}");
+    }
+    for (length, l, r, seconds) in TO_FLYING_CAR {
+        assert_eq!(from_stop(length, l, car(2, Car { flying: true, ..CAR }), r), seconds, "length {length}, l {l}, r {r}");
+    }
+    for (length, l, r, seconds) in TO_STOP_TRAM {
+        assert_eq!(from_stop(length, l, tram(2, true, 300, 10), r), seconds, "length {length}, l {l}, r {r}");
+    }
+}
+
+/// A car, and a stop tram of 325 dm, worked out by hand. The car leaves after 3 + 200/100 = 5 and reaches after 2, the tram
+/// reaches after the root of 45/5 = 3: entries 2 and, with the floor, 12.04 - 2, up to 11. L is 2 - 1 + 10 + 11 = 22, and (33)
+/// asks for T x T x 6,883 >= 26,400,000: 62. Effective green 40, green 39; the tram starts at 39 + 2.
+#[test]
+fn working_out_with_the_floor() {
+    let with_clearing = |l| junction(&[car(1, CAR), tram(2, true, 325, 10)], &[zone(1, 2, 140, 75, l, 30)], &[count(1, 600)]);
+    for l in [400, 401, 504] {
+        let j = with_clearing(l);
+        assert_eq!((entry(&j, 1, 2), entry(&j, 2, 1)), (2, 11));
+        let mut buffer = [0; 21];
+        let worked = work_out(&j.to_file(), &mut buffer).unwrap();
+        assert_eq!((worked.first_length, worked.cycle, worked.tried), (62, 62, 1));
+        assert_eq!(buffer[..], plan_file(62, &[(0, 39), (41, 10)]));
+        assert_eq!(judge(&j.to_file(), &buffer), Ok(()));
+        // one second later the tram leaves at 52 + 12.04, and the car reaches at 62 + 2
+        let late = plan_file(62, &[(0, 39), (42, 10)]);
+        assert_eq!(judge(&j.to_file(), &late), refused(17, 1));
+        assert!(!meaning(&j, &read_plan(&late, &j).unwrap()));
+    }
 }

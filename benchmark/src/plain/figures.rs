@@ -37,8 +37,14 @@ fn tram_leaving(t: &Tram, l: u64) -> Time {
     } else if l <= 400 {
         Time::Root { q: way, d: 5, less: 0 }
     } else {
-        Time::Ratio { n: 12_321 + 10 * (l - 400), d: 1_110 }
+        longer(400 + t.length as u64, 5, 12_321 + 10 * (l - 400), 1_110)
     }
+}
+
+/// The larger of the root of q / d and n / e, compared exactly; n / e where they are equal.
+fn longer(q: u64, d: u64, n: u64, e: u64) -> Time {
+    let (root, ratio) = (Time::Root { q, d, less: 0 }, Time::Ratio { n, d: e });
+    if within(root, ratio, 0) { ratio } else { root }
 }
 
 fn walk_leaving(p: &Pedestrian, l: u64) -> Time {

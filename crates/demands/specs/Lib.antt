@@ -1,4 +1,5 @@
 pub mod Asked
+pub mod Farther
 pub mod Figures
 pub mod Files
 pub mod FirstDemand

@@ -1,3 +1,5 @@
+pub mod Farther
+pub mod Larger
 pub mod Leaves
 pub mod Numbers
 pub mod Streams

@@ -40,7 +40,7 @@ ratio-ratio m k n d gap d-pos = (
 )
 
 -- √(q/e) ≤ u/d and u/d ≤ w/b give √(q/e) ≤ w/b
-root-below : (q e u d w b : ℕ) → 0 < d → q * (d * d) ≤ u * u * e → u * b ≤ w * d → q * (b * b) ≤ w * w * e
+pub root-below : (q e u d w b : ℕ) → 0 < d → q * (d * d) ≤ u * u * e → u * b ≤ w * d → q * (b * b) ≤ w * w * e
 root-below q e u d w b d-pos test side =
     le-of-mul-le-mul-right {k = d * d} (omega (arith, mul-le-mul-right (b * b) test, mul-le-mul-right e (mul-le-mul side side))) (mul-pos d-pos d-pos)
 

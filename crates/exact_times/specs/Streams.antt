@@ -18,6 +18,7 @@ use Rattle.times.specs.Least.{Moves, entry-least}
 use Rattle.times.specs.declared.Time.{Time}
 use Rattle.times.specs.declared.Time.the-variants.{Ratio}
 use Rattle.times.specs.Times.{carTime, carLeaving, stopLeaving, tramLeaving, walkLeaving, leaving, passing, carReaching, tramReaching, countedReaching, walkReaching, reaching}
+use Rattle.exact_times.specs.Larger.{longer-sound}
 use Rattle.exact_times.specs.Leaves.{LeavesInTime, LeavesByLetter}
 use Rattle.exact_times.specs.Numbers.{Sound, within-numbers}
 
@@ -27,7 +28,9 @@ leaving-sound (Car c) l m =
     by-test (eqb (c .radius) 0) (λ e. rw e (omega arith))
     (λ e. by-test (ltb 150 (c .radius)) (λ f. rw (e, f) (omega arith)) (λ f. rw (e, f) (omega arith)))
 leaving-sound (Tram t) l m =
-    by-test (t .stop) (λ e. by-test (leb l 400) (λ f. rw (e, f) (omega arith)) (λ f. rw (e, f) (omega arith))) (λ e. rw e (omega arith))
+    by-test (t .stop)
+    (λ e. by-test (leb l 400) (λ f. rw (e, f) (omega arith)) (λ f. rw (e, f) (longer-sound _ _ _ _ (omega arith) (omega arith))))
+    (λ e. rw e (omega arith))
 leaving-sound (Pedestrian p) l m = m
 leaving-sound (Cyclist y) l m = omega arith
 leaving-sound (Island i) l m = m

@@ -1,4 +1,5 @@
--- The marked figures 1 to 10 of document 01, in one table: what the definitions give and what the paper says, with one proof over it.
+-- The marked figures 1 to 10 of document 01, figure 6 as request 2026-02 of document 02 has it, in one table: what the definitions give and what
+-- the papers say, with one proof over it.
 use Prim.Native.Nat.{ℕ}
 use mathlib.Core.Bool.{Bool, true, false}
 use mathlib.Core.List.{List, [], _∷_, map}
@@ -52,7 +53,7 @@ figures =
     figure 5 (entry (tram true 300) (car 0) 200 75) 8 ∷
     figure 5 (entry (tram true 300) (car 0) 200 74) 9 ∷
     figure 6 (toPedestrian (tram true 325) 400) 13 ∷
-    figure 6 (toPedestrian (tram true 325) 401) 12 ∷
+    figure 6 (toPedestrian (tram true 325) 401) 13 ∷
     figure 7 (toPedestrian (tram false 300) 200) 10 ∷
     figure 8 (entry (pedestrian 70 200) (car 0) 0 75) 0 ∷
     figure 9 (needAt 50 (pedestrian 120 200)) 10 ∷
@@ -62,7 +63,7 @@ figures =
     figure 10 (straightFlow 541) 2840 ∷
     []
 
--- each figure is the paper's
+-- each figure is the papers'
 pub every-figure : map (λ (f : MarkedFigure). f .value) figures ≡ map (λ (f : MarkedFigure). f .paper) figures
 unfolding figures toTimes toFlows
 every-figure = refl

@@ -14,7 +14,7 @@ use Rattle.streams.specs.declared.Stream.{Stream}
 use Rattle.times.specs.declared.Time.{Time}
 use Rattle.times.specs.declared.Time.the-variants.{Ratio, Root}
 use Rattle.times.specs.Comparison.{ratioRatio, ratioRoot, rootRatio, rootAfter, rootRoot, ratioWithin, rootWithin, within, belowRoot}
-use Rattle.times.specs.Times.{carTime, carLeaving, stopLeaving, tramLeaving, walkLeaving, leaving, passing, carReaching, tramReaching, countedReaching, walkReaching, reaching}
+use Rattle.times.specs.Times.{carTime, carLeaving, longer, stopLeaving, tramLeaving, walkLeaving, leaving, passing, carReaching, tramReaching, countedReaching, walkReaching, reaching}
 use Rattle.times.specs.Entry.{entry, gap-decides, gap-least}
 
 -- a reaching time that is not below 0, and less by no more than the gap
@@ -50,6 +50,13 @@ module _ (g : ℕ) where
       rw (le-leb c g (late .0))
       (after-clears (q * f) (p * e) (e * f) c (g - c) (omega (arith, mul-le-mul-right f h)) (omega (arith, mul-le-mul-right e (late .1))))
 
+  longer-clears : (q e n d : ℕ) (reach : Time) → NotEarly g reach → q ≤ g * g * e → n ≤ g * d → within (longer q e n d) reach g ≡ true
+  unfolding longer within
+  longer-clears q e n d reach late low few =
+      by-test (rootRatio q e n d 0)
+      (λ t. rw t (ratio-clears n d reach late few))
+      (λ t. rw t (simp add-zero (root-clears q e reach late low)))
+
 counted-late : (counted : Bool) (r speed : ℕ) → NotEarly 999 (countedReaching counted r speed)
 unfolding countedReaching
 counted-late counted r speed = by-test counted (λ e. rw e tt) (λ e. rw e tt)
@@ -80,8 +87,8 @@ module _ (l : ℕ) (low : l ≤ 999) (reach : Time) (late : NotEarly 999 reach) 
   unfolding stopLeaving within
   stop-clears length h =
       by-test (leb l 400)
-      (λ e. rw e (simp add-zero (root-clears 999 (l + length) 5 reach late (omega arith))))
-      (λ e. rw e (ratio-clears 999 _ 1110 reach late (omega arith)))
+      (λ e. rw e (simp add-zero (root-clears 999 (l + length) _ reach late (omega arith))))
+      (λ e. rw e (longer-clears 999 _ _ _ _ reach late (omega arith) (omega arith)))
 
   walk-clears : (p : PedestrianFigures) → 0 < p .speed → within (walkLeaving p l) reach 999 ≡ true
   unfolding walkLeaving within

@@ -1,10 +1,11 @@
--- Leaving and reaching times of each kind, unrounded (document 01, "Times at a zone"; annex 1.1 to 1.3).
+-- Leaving and reaching times of each kind, unrounded (document 01, "Times at a zone", with document 02; annex 1.1 to 1.3).
 -- Distances are decimetres: 10 m/s is 100.
 use Prim.Native.Nat.{ℕ, _+_, _-_, _*_, max}
 use mathlib.Core.Bool.{Bool, cond}
 use lib.Dec.{leb, ltb, eqb}
 use Rattle.times.specs.declared.Time.{Time}
 use Rattle.times.specs.declared.Time.the-variants.{Ratio, Root}
+use Rattle.times.specs.Comparison.{rootRatio}
 use Rattle.streams.specs.declared.Kind.{Kind}
 use Rattle.streams.specs.declared.Kind.the-variants.{Car, Tram, Pedestrian, Cyclist, Island}
 use Rattle.streams.specs.declared.CarFigures.{CarFigures}
@@ -22,10 +23,15 @@ carLeaving c l =
     cond (eqb (c .radius) 0) (carTime 3 100 (c .amber) l)
     (cond (ltb 150 (c .radius)) (carTime 2 70 (c .amber) l) (carTime 2 50 (c .amber) l))
 
--- tram of length t from a stop before the line: the root of (l + t)/5 if l is at most 400 (4, 11), else 11.1 + (l - 400)/111 (11'), which
--- is (111 × 111 + 10(l - 400))/1110
+-- the larger of √(q/e) and n/d, compared exactly: n/d where √(q/e) ≤ n/d, which is `rootRatio` with gap 0. What "the larger" means, without
+-- this test, is `longer-at-least` of exact_times/specs/Larger.antt.
+unfoldable pub longer : ℕ → ℕ → ℕ → ℕ → Time
+longer q e n d = cond (rootRatio q e n d 0) (Ratio n d) (Root q e 0)
+
+-- tram of length t from a stop before the line: the root of (l + t)/5 if l is at most 400 (4, 11); else the larger of (11) at 400 and
+-- 11.1 + (l - 400)/111 (11'), which is (111 × 111 + 10(l - 400))/1110 (document 02, 2026-02)
 unfoldable pub stopLeaving : ℕ → ℕ → Time
-stopLeaving t l = cond (leb l 400) (Root (l + t) 5 0) (Ratio (12321 + 10 * (l - 400)) 1110)
+stopLeaving t l = cond (leb l 400) (Root (l + t) 5 0) (longer (400 + t) 5 (12321 + 10 * (l - 400)) 1110)
 
 -- running tram: 5.1 + 9(l + t)/1000 (3, 10); house: only the case drawn, not the larger of the two
 unfoldable pub tramLeaving : TramFigures → ℕ → Time

@@ -1,9 +1,9 @@
-// Times at a conflict zone and the entry from one stream to another (annex, section 1; document 01, "Times at a zone").
+// Times at a conflict zone and the entry from one stream to another (annex, section 1; document 01, "Times at a zone", with document 02).
 ghost use mathlib.Core.Path.{_≡_};
 ghost use Prim.Native.Nat.{_≤_, _^_};
 ghost use Rattle.times.specs.lemmas.Bounds.{TimeSmall, SmallRatio, SmallRoot, SmallRoots, Timed};
 ghost use Rattle.times.specs.Comparison.{ratioRatio, ratioRoot, rootRatio, rootAfter, rootBefore, rootRoot, ratioWithin, rootWithin, within as withinGap};
-ghost use Rattle.times.specs.Times.{carTime, carLeaving, stopLeaving, tramLeaving, walkLeaving, leaving as leavingTime, passing as passingTime, carReaching, tramReaching, countedReaching, walkReaching, reaching as reachingTime};
+ghost use Rattle.times.specs.Times.{carTime, carLeaving, longer as longerOf, stopLeaving, tramLeaving, walkLeaving, leaving as leavingTime, passing as passingTime, carReaching, tramReaching, countedReaching, walkReaching, reaching as reachingTime};
 ghost use Rattle.times.specs.Entry.{leastGap, entry as entryOf};
 use streams::CarFigures;
 use streams::Kind;
@@ -183,7 +183,7 @@ fn tram_leaving(t: TramFigures, l: u16) -> Time
     }
 }
 
-// From a stop: (4, 11) up to 400 dm, (11') beyond.
+// From a stop: (4, 11) up to 400 dm, beyond it the larger of (11) at 400 and (11') (document 02, 2026-02).
 fn stop_leaving(length: u16, l: u16) -> Time
     ensures { λ r. ⌜ Timed r (stopLeaving length l) ⌝ }
 {
@@ -195,8 +195,20 @@ fn stop_leaving(length: u16, l: u16) -> Time
             less: 0,
         };
     }
+    let way = 400 + length as u64;
     let parts = 12321 + 10 * (l as u64 - 400);
-    Time::Ratio { n: parts, d: 1110 }
+    longer(way, 5, parts, 1110)
+}
+
+// The larger of the square root of q / e and n / d, compared exactly.
+fn longer(q: u64, e: u64, n: u64, d: u64) -> Time
+    requires { ⌜ SmallRoot q e 0 ⌝ ∗ ⌜ SmallRatio n d ⌝ }
+    ensures { λ r. ⌜ Timed r (longerOf q e n d) ⌝ }
+{
+    if root_ratio(q, e, n, d, 0) {
+        return Time::Ratio { n, d };
+    }
+    Time::Root { q, d: e, less: 0 }
 }
 
 // A pedestrian, over an island too (5, 12).

@@ -22,13 +22,21 @@ pedestrian = ofKind 3
 unfoldable pub island : ℕ → ℕ → ℕ → List ℕ
 island wider between packet = 2 ∷ 0 ∷ 15 ∷ 5 ∷ 2 ∷ 12 ∷ 0 ∷ 70 ∷ 0 ∷ 200 ∷ 0 ∷ 0 ∷ 0 ∷ wider ∷ 0 ∷ between ∷ 0 ∷ packet ∷ []
 
+-- a tram of phase 2 from a stop before the line, with a length, 10 an hour
+unfoldable pub stopTram : ℕ → List ℕ
+stopTram length = 2 ∷ 0 ∷ 6 ∷ 2 ∷ 2 ∷ 1 ∷ length / 256 ∷ length % 256 ∷ 10 ∷ []
+
 -- a cyclist of a phase, with the byte that says whether its reach is counted
 unfoldable pub cyclist : ℕ → ℕ → List ℕ
 cyclist phase counted = 2 ∷ 0 ∷ 3 ∷ 4 ∷ phase ∷ counted ∷ []
 
--- a zone of two streams: 140, 75, 70, 0
+-- a zone of two streams with the second's clearing distance: 140, 75, that, 0
+unfoldable pub zoneOver : ℕ → ℕ → ℕ → List ℕ
+zoneOver a b clearing = 3 ∷ 0 ∷ 10 ∷ a ∷ b ∷ 0 ∷ 140 ∷ 0 ∷ 75 ∷ clearing / 256 ∷ clearing % 256 ∷ 0 ∷ 0 ∷ []
+
 unfoldable pub zone : ℕ → ℕ → List ℕ
-zone a b = 3 ∷ 0 ∷ 10 ∷ a ∷ b ∷ 0 ∷ 140 ∷ 0 ∷ 75 ∷ 0 ∷ 70 ∷ 0 ∷ 0 ∷ []
+unfolding zoneOver
+zone a b = zoneOver a b 70
 
 -- a count of stream 1, day 8,960 and so many, file day 0, with a flow
 unfoldable pub count : ℕ → ℕ → List ℕ

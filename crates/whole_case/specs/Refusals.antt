@@ -11,7 +11,7 @@ use Rattle.cycle_search.specs.Planning.{firstTried}
 use Rattle.junction_file.specs.Reading.{reading}
 use Rattle.planner.specs.WorkingOut.{worked}
 use Rattle.whole_case.specs.Fields.{heading, car, pedestrian, island, ofKind, cyclist, zone, count, cycle11, green12}
-use Rattle.whole_case.specs.WholeCase.{WC, WI, WP, planFrom, toJudge, toPlan}
+use Rattle.whole_case.specs.WholeCase.{WC, WI, WP, WT, planFrom, toJudge, toPlan}
 
 record Case : Type 0 where
   junction : List ℕ
@@ -33,7 +33,7 @@ unfolding cyclists
 seventeenth field = heading ++ car 3 ++ pedestrian ++ cyclists 14 ++ field
 
 table : List Case
-unfolding case seventeenth WI heading car pedestrian island ofKind cyclist zone count cycle11 green12
+unfolding case seventeenth WI WT heading car pedestrian island ofKind cyclist zone count cycle11 green12
 table =
     -- the last byte is cut off
     case (take 57 WC) WP (Refused 2 48) ∷
@@ -73,6 +73,8 @@ table =
     case WC (cycle11 50 ++ green12 1 0 8 ++ green12 2 40 5) (Refused 15 2) ∷
     -- a start of 39
     case WC (planFrom 39) (Refused 17 1) ∷
+    -- the car 10 s after the stop tram, which (11') alone would let pass
+    case WT (cycle11 64 ++ green12 1 0 40 ++ green12 2 44 10) (Refused 17 1) ∷
     []
 
 every-case : map (λ c. judgement (c .junction) (c .plan)) table ≡ map (λ c. c .verdict) table

@@ -29,7 +29,7 @@ use Rattle.junction_phases.specs.JunctionPhases.{isIn, carIn, hasCars, phaseRat
 use Rattle.cycle_search.specs.Planning.{ratios, firstTried, phaseGreen, planAt, outcome, works, cycleFrom, cycle, found}
 use Rattle.planner.specs.WorkingOut.{calculation, junctionVerdict, junctionWorked, junctionBuffer, worked, buffer}
 use Rattle.worked_values.specs.Computed.{toTimes, toFlows, toPhases}
-use Rattle.whole_case.specs.Fields.{heading, car, pedestrian, island, zone, count, cycle11, green12}
+use Rattle.whole_case.specs.Fields.{heading, car, pedestrian, island, stopTram, zoneOver, zone, count, cycle11, green12}
 
 -- WC: the junction file with design day 9,000, the car, the pedestrian, their zone, and 600 E/h counted on the design day
 unfoldable pub WC : List ℕ
@@ -144,3 +144,18 @@ island-planned = refl
 island-left : buffer WI (replicate 21 255) ≡ cycle11 57 ++ green12 1 0 38 ++ green12 2 43 10
 unfolding WI cycle11 green12 toPlan
 island-left = refl
+
+-- WT: the whole case with a stop tram of 325 dm for the pedestrian, which clears 401 dm (document 02, 2026-02): by (11) at 400 it leaves after
+-- 12.04 s, and the car reaches after 2 s
+unfoldable pub WT : List ℕ
+unfolding heading car stopTram zoneOver count
+WT = heading ++ car 3 ++ stopTram 325 ++ zoneOver 1 2 401 ++ count 40 600
+
+-- so M is 4 and 11, L 4 - 1 + 10 + 11 = 24 and T0 65, and the plan of 65 s is accepted; the car has 65 - 24 - 1
+floor-planned : worked WT 21 ≡ record { verdict = Passed; cycle = 65; tried = 1; size = 21 }
+unfolding WT toPlan
+floor-planned = refl
+
+floor-left : buffer WT (replicate 21 255) ≡ cycle11 65 ++ green12 1 0 40 ++ green12 2 44 10
+unfolding WT cycle11 green12 toPlan
+floor-left = refl

@@ -3,7 +3,7 @@ use Rattle.laws.specs.Rounding.{up}
 use Rattle.laws.specs.Search.{firstBelow, firstOf}
 use Rattle.laws.specs.Sums.{sumOf}
 use Rattle.times.specs.Comparison.{belowRoot, rootBelow, ratioRatio, ratioRoot, rootRatio, rootAfter, rootBefore, rootRoot, ratioWithin, rootWithin, within}
-use Rattle.times.specs.Times.{carTime, carLeaving, stopLeaving, tramLeaving, walkLeaving, leaving, passing, carReaching, tramReaching, countedReaching, walkReaching, reaching}
+use Rattle.times.specs.Times.{carTime, carLeaving, longer, stopLeaving, tramLeaving, walkLeaving, leaving, passing, carReaching, tramReaching, countedReaching, walkReaching, reaching}
 use Rattle.times.specs.Entry.{leastGap, entry}
 use Rattle.flows.specs.Needs.{table3, longestCycle, tramNeed, crossingSpeed, disturbance, pedestrianNeed, islandNeed, kindNeed, needAt}
 use Rattle.flows.specs.Saturation.{table1, listedFrom, straightFlow, turningFlow, baseFlow, gradientPercent, conditionsPercent, turnDivisor, saturationFlow, flowRatio}
@@ -12,7 +12,7 @@ use Rattle.phase_greens.specs.Greens.{share, shares, sharing, carsBefore, extra
 
 unfoldable pub toTimes : Unit {0}
 unfolding firstBelow firstOf belowRoot rootBelow ratioRatio ratioRoot rootRatio rootAfter rootBefore rootRoot ratioWithin rootWithin within
-    carTime carLeaving stopLeaving tramLeaving walkLeaving leaving passing carReaching tramReaching countedReaching walkReaching reaching leastGap entry
+    carTime carLeaving longer stopLeaving tramLeaving walkLeaving leaving passing carReaching tramReaching countedReaching walkReaching reaching leastGap entry
 toTimes = tt
 
 unfoldable pub toFlows : Unit {0}

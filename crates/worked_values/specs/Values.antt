@@ -106,12 +106,17 @@ values =
     (clears (car 5 false 0) 0 is 6) ∷
     -- (10): 5.1 + 9 × 100/1000 = 6; 5.1 + 9 × 989/1000 = 14.001
     (clears (tram false 100) 0 is 6) ∷ (clears (tram false 100) 1 is 7) ∷ (clears (tram false 600) 389 is 15) ∷
-    -- (11): the root of 500/5 = 10, of 501/5 above it; the root of 725/5 above 12 at 400, (11') 11.109 beyond it
+    -- (11): the root of 500/5 = 10, of 501/5 above it
     (clears (tram true 300) 200 is 10) ∷ (clears (tram true 300) 201 is 11) ∷
-    (clears (tram true 325) 400 is 13) ∷ (clears (tram true 325) 401 is 12) ∷
-    -- (11'): 11.1 + 99/111 below 12, 11.1 + 100/111 above it; 11.1 + 210/111 below 13, 11.1 + 211/111 above it
-    (clears (tram true 325) 499 is 12) ∷ (clears (tram true 325) 500 is 13) ∷
-    (clears (tram true 325) 610 is 13) ∷ (clears (tram true 325) 611 is 14) ∷
+    -- (11'), with 10 s by (11) at 400: 11.1 + 1/111 beyond it; 11.1 + 99/111 below 12, 11.1 + 100/111 above it; 11.1 + 210/111 below 13,
+    -- 11.1 + 211/111 above it
+    (clears (tram true 100) 400 is 10) ∷ (clears (tram true 100) 401 is 12) ∷
+    (clears (tram true 100) 499 is 12) ∷ (clears (tram true 100) 500 is 13) ∷
+    (clears (tram true 100) 610 is 13) ∷ (clears (tram true 100) 611 is 14) ∷
+    -- (11) at 400 where that is larger: the root of 720/5 = 12, of 721/5 above it, where (11') is 11.1 + 1/111; the root of 1,000/5 above 14 where
+    -- (11') is 11.1 + 321/111, below 14; but 11.1 + 433/111, above 15, is larger than that root
+    (clears (tram true 320) 401 is 12) ∷ (clears (tram true 321) 401 is 13) ∷
+    (clears (tram true 600) 721 is 15) ∷ (clears (tram true 600) 833 is 16) ∷
     -- (12): 72/12 = 6; (12'): 1 + 40/40 = 2
     (clears (walker 70 200 false false) 72 is 6) ∷ (clears (walker 70 200 false false) 73 is 7) ∷
     (clears (cyclist false) 40 is 2) ∷ (clears (cyclist false) 41 is 3) ∷
