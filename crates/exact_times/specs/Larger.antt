@@ -64,9 +64,9 @@ module _ (q e n d : ℕ) (e-pos : 0 < e) (d-pos : 0 < d) where
         λ parts. larger .1 (each .1 (root .0 (parts .0), ratio .0 (parts .1))),
       )
 
--- formula (11'): 11.1 + (l - 400)/111
+-- formula (11'): 11.1 + (l - 400)/111, over 10 × 111
 abbrev pub byElevenPrime : ℕ → Time
-byElevenPrime l = Ratio (12321 + 10 * (l - 400)) 1110
+byElevenPrime l = Ratio (111 * 111 + 10 * (l - 400)) (10 * 111)
 
 -- document 02's sentence: beyond 400 dm a stop tram leaves in time exactly where it does by (11) at 400 and by (11'), whatever the reaching
 -- time and the gap
