@@ -1,7 +1,7 @@
 #!/bin/sh
 # Makes and installs the C library from crates that rt has proved; holds its declarations to each other; calls all of its header from C and C++
-# and runs the C example, each also under valgrind, and the Python example; measures its stack; looks at what is installed; compiles the benchmark,
-# and compares the library with the model.
+# and runs the C example, each also under valgrind, and the Python example; measures its stack; looks at what is installed; runs the benchmark
+# briefly, and compares the library with the model.
 cd "$(dirname "$0")/.." || exit 1
 work=$(mktemp -d) || exit 1
 trap 'rm -rf "$work"' EXIT
@@ -108,8 +108,16 @@ saves python3 examples/desk.py
 [ $failed = 0 ] && echo "library: the examples in C and Python write what they should"
 tests/install.sh "$prefix" || failed=1
 
-cargo build --release --offline --locked --quiet --package benchmark > "$work/log" 2>&1 || { tail -n 60 "$work/log"; exit 1; }
-echo "library: the benchmark is compiled"
+# The benchmark on few files and in short rounds: every row is written, in order, with files, instructions of both programs and times.
+cargo run --release --offline --locked --quiet --package benchmark -- briefly > "$work/out" 2> "$work/log" || { tail -n 60 "$work/log"; exit 1; }
+count=' [1-9][0-9]* \|' ratio=' [0-9]+\.[0-9]+ \|' times=' [0-9.]+ \([0-9.]+ to [0-9.]+\) \|'
+rows=$(sed -nE "s/^\| ([^|]+) \|$count$count$count$ratio$times$times$ratio\$/\1/p" "$work/out" | tr '\n' ';')
+expected="read, taken;a plan;refused 21;refused 22;all;accepted;refused 15;refused 16;refused 17;all"
+expected="$expected;read, taken;worked out, a plan;judged, accepted;read, taken;worked out, a plan;judged, accepted"
+expected="$expected;$(seq -s ';' 2 16);0;1;2;4;$(seq -s ';' 8 8 64)"
+expected="$expected;1;2 to 3;4 to 7;8 to 15;16 to 31;32 to 63;64 to 127;18;32;56;80;104;128;152;180, then 22;"
+[ "$rows" = "$expected" ] || { echo "library: the benchmark does not write these rows: $expected"; cat "$work/out"; failed=1; }
+[ $failed = 0 ] && echo "library: the benchmark gives the stated answers, and writes every row with counts and times"
 cargo test --release --offline --locked --quiet --package model > "$work/log" 2>&1 || { tail -n 60 "$work/log"; exit 1; }
 passed=0
 for n in $(sed -n 's/^test result: ok\. \([0-9]*\) passed.*/\1/p' "$work/log"); do

@@ -1,6 +1,16 @@
-//! The library's C entries for judging and working out.
-use crate::plain::Refusal;
-use givendra_sys::{givendra_judge, givendra_work_out};
+//! The library's C entries for reading, judging and working out.
+use crate::plain::{Held, Refusal};
+use givendra_sys::{givendra_judge, givendra_read_junction, givendra_work_out};
+
+/// What a junction file holds.
+pub fn read(junction: &[u8]) -> Result<Held, Refusal> {
+    let answer = unsafe { givendra_read_junction(junction.as_ptr(), junction.len()) };
+    if answer.refusal == 0 {
+        Ok(Held { design_day: answer.design_day, streams: answer.streams, zones: answer.zones, counts: answer.counts })
+    } else {
+        Err(Refusal { number: answer.refusal, place: answer.place })
+    }
+}
 
 pub fn judge(junction: &[u8], plan: &[u8]) -> Result<(), Refusal> {
     let answer = unsafe { givendra_judge(junction.as_ptr(), junction.len(), plan.as_ptr(), plan.len()) };

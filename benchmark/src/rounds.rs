@@ -1,5 +1,14 @@
-//! Times of two programs, taken in turns.
+//! Times of library and plain Rust, taken in turns.
+use crate::calls::{by_library, by_plain};
+use crate::sets::Set;
 use std::time::{Duration, Instant};
+
+/// How many rounds, and about how long each takes.
+#[derive(Clone, Copy)]
+pub struct Rounds {
+    pub number: usize,
+    pub length: Duration,
+}
 
 /// Of some rounds the median, the least and the greatest.
 #[derive(Clone, Copy)]
@@ -9,8 +18,8 @@ pub struct Spread {
     pub greatest: f64,
 }
 
-/// The times of the two, and how many times the plain code's the library's is.
-pub struct Race {
+/// Seconds for a call, and how many times the plain code's the library's are.
+pub struct Times {
     pub library: Spread,
     pub plain: Spread,
     pub ratio: f64,
@@ -22,35 +31,40 @@ fn spread(mut numbers: Vec<f64>) -> Spread {
 }
 
 /// How often a program runs in one round, so that the round takes about so long.
-fn repeats(program: &mut dyn FnMut(), round: Duration) -> u32 {
-    program();
+fn repeats(program: fn(&Set), set: &Set, round: Duration) -> u32 {
+    program(set);
     let start = Instant::now();
     let mut n = 0;
-    while start.elapsed() < round / 4 {
-        program();
+    loop {
+        program(set);
         n += 1;
+        if start.elapsed() >= round / 4 {
+            break;
+        }
     }
     let once = start.elapsed().as_secs_f64() / n as f64;
     (round.as_secs_f64() / once).ceil() as u32
 }
 
-fn seconds(program: &mut dyn FnMut(), repeats: u32) -> f64 {
+/// Seconds for one call.
+fn seconds(program: fn(&Set), set: &Set, repeats: u32) -> f64 {
     let start = Instant::now();
     for _ in 0..repeats {
-        program();
+        program(set);
     }
-    start.elapsed().as_secs_f64() / repeats as f64
+    start.elapsed().as_secs_f64() / repeats as f64 / set.cases.len() as f64
 }
 
-/// Runs the two in turns for so many rounds. `calls` is the number of calls in one run of a program. The ratio is taken of each turn, and is
-/// the median of these: what slows the machine for a while slows both programs of a turn.
-pub fn in_turns(a: &mut dyn FnMut(), b: &mut dyn FnMut(), calls: usize, rounds: usize, round: Duration) -> Race {
-    let (often_a, often_b) = (repeats(a, round), repeats(b, round));
-    let (mut of_a, mut of_b) = (vec![], vec![]);
-    for _ in 0..rounds {
-        of_a.push(seconds(a, often_a) / calls as f64);
-        of_b.push(seconds(b, often_b) / calls as f64);
+/// Runs the two in turns. The ratio is taken of each turn, and is the median of these: what slows the machine for a while slows both
+/// programs of a turn.
+pub fn in_turns(set: &Set, rounds: Rounds) -> Times {
+    let often = |program| repeats(program, set, rounds.length);
+    let (often_library, often_plain) = (often(by_library), often(by_plain));
+    let (mut library, mut plain) = (vec![], vec![]);
+    for _ in 0..rounds.number {
+        library.push(seconds(by_library, set, often_library));
+        plain.push(seconds(by_plain, set, often_plain));
     }
-    let ratios = of_a.iter().zip(&of_b).map(|(a, b)| a / b).collect();
-    Race { library: spread(of_a), plain: spread(of_b), ratio: spread(ratios).median }
+    let ratios = library.iter().zip(&plain).map(|(library, plain)| library / plain).collect();
+    Times { library: spread(library), plain: spread(plain), ratio: spread(ratios).median }
 }

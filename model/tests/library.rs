@@ -9,7 +9,7 @@ use model::generate::*;
 use model::judge::rules;
 use model::junction::{Junction, Kind};
 use model::random::{seed, Random};
-use model::times::{accelerating, at_full_speed, leaving, reaching, zone_distances, Entries};
+use model::times::{accelerating, at_full_speed, entry, leaving, reaching, zone_distances, Entries};
 use model::work_out::{search, write, Worked};
 use model::{meaning, read_plan, Plan, Refusal};
 
@@ -519,4 +519,52 @@ fn file_days() {
     hits.print();
     hits.at_least(1_000, "judge", &[0]);
     hits.at_least(1_000, "work_out", &[0]);
+}
+
+// ---- distances
+
+/// Other distances in every zone of the pair, where the direction from one stream to the other does not use them: that goes by the clearing
+/// distance of the one that leaves and the reaching distance of the one that comes.
+fn with_other_distances(r: &mut Random, junction: &Junction, from: u8, to: u8) -> Junction {
+    let mut other = junction.clone();
+    for z in &mut other.zones {
+        let (reaching, clearing) = (r.from_to(0, 999) as u16, r.from_to(0, 999) as u16);
+        if (z.a, z.b) == (from, to) {
+            (z.reaching_a, z.clearing_b) = (reaching, clearing);
+        } else if (z.b, z.a) == (from, to) {
+            (z.reaching_b, z.clearing_a) = (reaching, clearing);
+        }
+    }
+    other
+}
+
+/// Other distances of the one direction, and the intergreen of the other does not change.
+#[test]
+fn distances_of_one_direction() {
+    let mut r = Random::new(seed("distances_of_one_direction", 19));
+    let mut hits = Hits::new(&["intergreen", "several zones", "back changes"]);
+    while hits.of("intergreen", 0) < 20_000 {
+        let junction = if r.one_in(12) { limit_junction(&mut r) } else { rich_junction(&mut r) };
+        if junction.zones.is_empty() {
+            continue;
+        }
+        let zone = r.pick(&junction.zones);
+        let (from, to) = if r.one_in(2) { (zone.a, zone.b) } else { (zone.b, zone.a) };
+        let other = with_other_distances(&mut r, &junction, from, to);
+        let (from, to) = (from as usize, to as usize);
+        let (one, two) = (Lent::new(&mut r, &junction.to_file()), Lent::new(&mut r, &other.to_file()));
+        let answer = intergreen(&two, from, to);
+        same("intergreen with other distances of the other direction", answer, intergreen(&one, from, to), one.bytes(), &[]);
+        same("intergreen", answer, figure(Ok(entry(&other, from, to) as u32)), two.bytes(), &[]);
+        hits.hit("intergreen", answer.refusal);
+        if zone_distances(&junction, from, to).count() > 1 {
+            hits.hit("several zones", answer.refusal);
+        }
+        if intergreen(&two, to, from) != intergreen(&one, to, from) {
+            hits.hit("back changes", answer.refusal);
+        }
+    }
+    hits.print();
+    hits.at_least(5_000, "several zones", &[0]);
+    hits.at_least(10_000, "back changes", &[0]);
 }

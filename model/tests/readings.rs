@@ -1,4 +1,4 @@
-//! Every example of the readings that concerns the base, and what requests 2026-01 and 2026-02 add to it.
+//! Every example of the readings that concerns the base, and what requests 2026-01 to 2026-03 add to it.
 mod common;
 use common::*;
 use model::annex::need;
@@ -598,4 +598,24 @@ fn working_out_with_the_floor() {
         assert_eq!(judge(&j.to_file(), &late), refused(17, 1));
         assert!(!meaning(&j, &read_plan(&late, &j).unwrap()));
     }
+}
+
+// ---- request 2026-03: two distances a direction
+
+/// The whole case with other distances in its zone: the entries from 1 to 2 and from 2 to 1.
+fn with_distances(clearing_a: u16, reaching_a: u16, clearing_b: u16, reaching_b: u16) -> (i128, i128) {
+    let zones = [zone(1, 2, clearing_a, reaching_a, clearing_b, reaching_b)];
+    let j = junction(&[car(1, CAR), walk(2, 70, 200, false)], &zones, &[count(1, 600)]);
+    (entry(&j, 1, 2), entry(&j, 2, 1))
+}
+
+/// From a to b by clearing a and reaching b, from b to a by clearing b and reaching a.
+#[test]
+fn two_distances_a_direction() {
+    // 3 + (140 + 60)/100 = 5, and the pedestrians reach at once; 70/12 = 5.83 less root of 90/10 - 1 = 2
+    assert_eq!(with_distances(140, 75, 70, 0), (5, 4));
+    // the car's 140 and the pedestrians' 0 as before, and the pedestrians leave at once
+    assert_eq!(with_distances(140, 999, 0, 0), (5, 0));
+    // the pedestrians' 70 and the car's 75 as before; the car's 3.6 is raised to amber + 1
+    assert_eq!(with_distances(0, 75, 70, 999), (4, 4));
 }

@@ -1,5 +1,5 @@
 //! Entries, needs and flows (annex, sections 1 and 2), and the tables of them that are worked out once.
-use super::reading::{Car, Island, Junction, Kind, Pedestrian, Stream, Tram, Zone};
+use super::reading::{Car, Island, Junction, Kind, Pedestrian, Stream, Tram};
 
 // ---- times
 
@@ -170,28 +170,29 @@ fn saturation_flow(c: &Car) -> u32 {
 
 // ---- tables
 
+/// The entries from one stream to another: the largest over the zones of their pair, 0 where they share none. One pass over the zones.
+fn entries(j: &Junction) -> [[u16; 16]; 16] {
+    let mut largest = [[0; 16]; 16];
+    for z in j.zones() {
+        let (a, b) = (&j.streams()[z.a], &j.streams()[z.b]);
+        let atob = &mut largest[z.a][z.b];
+        *atob = entry(a, b, z.clearing_a, z.reaching_b).max(*atob);
+        let btoa = &mut largest[z.b][z.a];
+        *btoa = entry(b, a, z.clearing_b, z.reaching_a).max(*btoa);
+    }
+    largest
+}
+
 /// A zone's streams and the entries of the pair.
 #[derive(Clone, Copy, Default)]
 pub struct Conflict {
     pub a: usize,
     pub b: usize,
-    pub ahead: u16,
-    pub behind: u16,
+    pub atob: u16,
+    pub btoa: u16,
 }
 
-/// The conflict at a zone: the entries are the largest over all zones of the pair.
-pub fn conflict(j: &Junction, zone: &Zone) -> Conflict {
-    let (first, second) = (&j.streams()[zone.a], &j.streams()[zone.b]);
-    let mut c = Conflict { a: zone.a, b: zone.b, ahead: 0, behind: 0 };
-    for z in j.zones() {
-        if (z.a, z.b) == (zone.a, zone.b) {
-            c.ahead = c.ahead.max(entry(first, second, z.clearing_a, z.reaching_b));
-            c.behind = c.behind.max(entry(second, first, z.clearing_b, z.reaching_a));
-        }
-    }
-    c
-}
-
+/// The conflicts of all zones, in their order.
 pub struct Conflicts {
     of: [Conflict; 64],
     count: usize,
@@ -199,9 +200,10 @@ pub struct Conflicts {
 
 impl Conflicts {
     pub fn new(j: &Junction) -> Conflicts {
+        let entries = entries(j);
         let mut all = Conflicts { of: [Conflict::default(); 64], count: j.zones().len() };
         for (c, z) in all.of.iter_mut().zip(j.zones()) {
-            *c = conflict(j, z);
+            *c = Conflict { a: z.a, b: z.b, atob: entries[z.a][z.b], btoa: entries[z.b][z.a] };
         }
         all
     }

@@ -1,5 +1,5 @@
 //! Plan files, questions 11 to 13, and the rules 15 to 17.
-use super::figures::{conflict, load, need, Conflict, Load};
+use super::figures::{load, need, Conflict, Conflicts, Load};
 use super::reading::{number, Junction};
 use super::{refuse, Refusal};
 
@@ -17,7 +17,7 @@ pub fn enough_capacity(load: &Load, cycle: u16, green: Green) -> bool {
 /// Do two greens keep the entries apart, both ways round the cycle?
 pub fn zone_clear(c: &Conflict, cycle: u16, a: Green, b: Green) -> bool {
     let off = if a.start <= b.start { b.start - a.start } else { b.start + cycle - a.start } as u32;
-    a.length as u32 + c.ahead as u32 <= off && off + b.length as u32 + c.behind as u32 <= cycle as u32
+    a.length as u32 + c.atob as u32 <= off && off + b.length as u32 + c.btoa as u32 <= cycle as u32
 }
 
 fn read_plan(file: &[u8], streams: usize) -> Result<(u16, [Green; 16]), Refusal> {
@@ -76,8 +76,8 @@ pub fn judge(junction: &[u8], plan: &[u8]) -> Result<(), Refusal> {
             return refuse(16, i + 1);
         }
     }
-    for (i, z) in j.zones().iter().enumerate() {
-        if !zone_clear(&conflict(&j, z), cycle, greens[z.a], greens[z.b]) {
+    for (i, c) in Conflicts::new(&j).all().iter().enumerate() {
+        if !zone_clear(c, cycle, greens[c.a], greens[c.b]) {
             return refuse(17, i + 1);
         }
     }

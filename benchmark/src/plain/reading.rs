@@ -1,5 +1,5 @@
 //! Junction files: questions 1 to 9.
-use super::{refuse, Refusal};
+use super::{refuse, Held, Refusal};
 
 #[derive(Clone, Copy)]
 pub struct Car {
@@ -90,6 +90,12 @@ pub struct Junction {
 
 pub fn number(bytes: &[u8], at: usize) -> u16 {
     u16::from_be_bytes([bytes[at], bytes[at + 1]])
+}
+
+#[inline(never)]
+pub fn read(file: &[u8]) -> Result<Held, Refusal> {
+    let j = Junction::read(file)?;
+    Ok(Held { design_day: j.day, streams: j.stream_count, zones: j.zone_count, counts: j.count_count })
 }
 
 impl Junction {
@@ -206,7 +212,8 @@ impl Junction {
         if body.len() != 10 {
             return Err(4);
         }
-        let [clearing_a, reaching_a, clearing_b, reaching_b] = [2, 4, 6, 8].map(|at| number(body, at));
+        let (clearing_a, reaching_a) = (number(body, 2), number(body, 4));
+        let (clearing_b, reaching_b) = (number(body, 6), number(body, 8));
         if clearing_a > 999 || reaching_a > 999 || clearing_b > 999 || reaching_b > 999 {
             return Err(5);
         }

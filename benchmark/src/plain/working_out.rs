@@ -35,10 +35,10 @@ impl Phases {
         for c in conflicts.all() {
             let (f, g) = (j.streams()[c.a].phase as usize - 1, j.streams()[c.b].phase as usize - 1);
             if (f + 1) % count == g {
-                phases.of[f].intergreen = phases.of[f].intergreen.max(c.ahead);
+                phases.of[f].intergreen = phases.of[f].intergreen.max(c.atob);
             }
             if (g + 1) % count == f {
-                phases.of[g].intergreen = phases.of[g].intergreen.max(c.behind);
+                phases.of[g].intergreen = phases.of[g].intergreen.max(c.btoa);
             }
         }
         phases

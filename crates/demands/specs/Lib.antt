@@ -4,6 +4,7 @@ pub mod Figures
 pub mod Files
 pub mod FirstDemand
 pub mod Islands
+pub mod OneDirection
 pub mod Places
 pub mod Questions
 pub mod SecondDemand

@@ -6,9 +6,8 @@ use mathlib.Core.Bool.{true, _&&_, false≢true}
 use mathlib.Core.Logic.{_↔_}
 use mathlib.Core.Path.{_≡_, refl}
 use lib.Dec.{eqb}
-use borrow.Author.Tests.{eqb-true}
 use Rattle.laws.specs.Ranges.{Between}
-use Rattle.laws.specs.Tests.{by-test, both-left, both-right}
+use Rattle.laws.specs.Tests.{by-test, two-same}
 use Rattle.streams.specs.declared.Kind.{Kind}
 use Rattle.streams.specs.declared.Kind.the-variants.{Car, Tram, Pedestrian, Cyclist, Island}
 use Rattle.exact_times.specs.Leaves.{LeavesInTime}
@@ -54,18 +53,16 @@ module _ (j : Junction) (t : Taken j) where
       let back = side-exact (z .b) (z .a) (r .b) gap in
       by-test (eqb (z .a .stream) n && eqb (z .b .stream) m)
       (λ f.
-      let n-is : z .a .stream ≡ n = eqb-true _ _ (both-left (eqb (z .a .stream) n) _ f) in
-      let m-is : z .b .stream ≡ m = eqb-true _ _ (both-right (eqb (z .a .stream) n) _ f) in
-      rw (f, ← n-is, ← m-is) (
-        λ h. (λ e. onward .0 h, λ e. absurd (omega (arith, eqb-true (z .b .stream) (z .a .stream) (both-left _ _ e), r .below))),
+      let is = two-same (z .a .stream) (z .b .stream) n m f in
+      rw (f, ← is .0, ← is .1) (
+        λ h. (λ e. onward .0 h, λ e. absurd (omega (arith, two-same (z .b .stream) (z .a .stream) (z .a .stream) (z .b .stream) e .0, r .below))),
         λ both. onward .1 (both .0 refl),
       ))
       (λ f.
       by-test (eqb (z .b .stream) n && eqb (z .a .stream) m)
       (λ g.
-      let n-is : z .b .stream ≡ n = eqb-true _ _ (both-left (eqb (z .b .stream) n) _ g) in
-      let m-is : z .a .stream ≡ m = eqb-true _ _ (both-right (eqb (z .b .stream) n) _ g) in
-      rw (f, g, ← n-is, ← m-is) (λ h. (λ e. absurd (false≢true e), λ e. back .0 h), λ both. back .1 (both .1 refl)))
+      let is = two-same (z .b .stream) (z .a .stream) n m g in
+      rw (f, g, ← is .0, ← is .1) (λ h. (λ e. absurd (false≢true e), λ e. back .0 h), λ both. back .1 (both .1 refl)))
       (λ g. rw (f, g) (λ h. (λ e. absurd (false≢true e), λ e. absurd (false≢true e)), λ both. zero-le)))
 
 -- a gap is at least the entry from stream n to stream m exactly where it is enough at each of their zones, whichever of the two is the

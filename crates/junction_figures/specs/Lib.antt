@@ -1,3 +1,4 @@
+pub mod Directions
 pub mod Exact
 pub mod Figures
 pub mod Positive

@@ -1,9 +1,9 @@
 // The annex's figures of a junction that was read. Streams are named by their numbers, from 1.
 ghost use mathlib.Core.Path.{_≡_};
-ghost use Prim.Native.Nat.{max};
-ghost use Rattle.junction_figures.specs.Figures.{forward as forwardAt, backward as backwardAt, entryAt, pairEntry, sharesAt, firstShared, sharesZone, unchecked as uncheckedPair, streamNeed, streamFlow, streamDay, kindSaturation, streamSaturation, streamRatio};
+ghost use mathlib.Core.Bool.{_&&_};
+ghost use lib.Dec.{eqb};
+ghost use Rattle.junction_figures.specs.Figures.{pairEntry, sharesAt, firstShared, sharesZone, unchecked as uncheckedPair, streamNeed, streamFlow, streamDay, kindSaturation, streamSaturation, streamRatio};
 use junction::Junction;
-use junction::Zone;
 use laws::u16_larger;
 use limits::MOST_ZONES;
 use streams::Kind;
@@ -24,35 +24,21 @@ pub fn pair_entry(j: Junction, n: usize, m: usize) -> u16
         } else {
             junction_places::no_zone()
         };
-        most = u16_larger(most, zone_entry(n, m, from, to, z));
+        if joins(n, m, z.a.stream, z.b.stream) {
+            most = u16_larger(most, times::entry(from, to, z.a.clearing, z.b.reaching));
+        } else if joins(n, m, z.b.stream, z.a.stream) {
+            most = u16_larger(most, times::entry(from, to, z.b.clearing, z.a.reaching));
+        }
         i += 1;
     }
     most
 }
 
-// The entry at one zone, with n and m the numbers of the two streams; 0 at a zone of other streams.
-fn zone_entry(n: usize, m: usize, from: Stream, to: Stream, z: Zone) -> u16
-    ensures { λ r. ⌜ r ≡ entryAt n m from to z ⌝ }
+// Whether x and y, the streams of a zone in one order or the other, are n and m.
+fn joins(n: usize, m: usize, x: u8, y: u8) -> bool
+    ensures { λ r. ⌜ r ≡ (eqb x n && eqb y m) ⌝ }
 {
-    if forward(n, m, z) {
-        return times::entry(from, to, z.a.clearing, z.b.reaching);
-    }
-    if backward(n, m, z) {
-        return times::entry(from, to, z.b.clearing, z.a.reaching);
-    }
-    0
-}
-
-fn forward(n: usize, m: usize, z: Zone) -> bool
-    ensures { λ r. ⌜ r ≡ forwardAt n m z ⌝ }
-{
-    (z.a.stream as usize == n) & (z.b.stream as usize == m)
-}
-
-fn backward(n: usize, m: usize, z: Zone) -> bool
-    ensures { λ r. ⌜ r ≡ backwardAt n m z ⌝ }
-{
-    (z.b.stream as usize == n) & (z.a.stream as usize == m)
+    (x as usize == n) & (y as usize == m)
 }
 
 // Whether streams n and m share a zone.
@@ -89,7 +75,7 @@ fn shares_at(j: Junction, n: usize, m: usize, i: usize) -> bool
     ensures { λ r. ⌜ r ≡ sharesAt j n m i ⌝ }
 {
     let z = junction_places::zone_at(j, i);
-    forward(n, m, z) | backward(n, m, z)
+    joins(n, m, z.a.stream, z.b.stream) | joins(n, m, z.b.stream, z.a.stream)
 }
 
 // The needed green of stream n at a cycle.

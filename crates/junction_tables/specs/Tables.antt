@@ -1,18 +1,14 @@
 -- Figures of a junction's zones and streams, worked out once: each place holds what the annex's definitions give.
-use Prim.Native.Nat.{ℕ, _+_, max}
-use mathlib.Core.Bool.{Bool, _&&_}
-use lib.Dec.{eqb}
+use Prim.Native.Nat.{ℕ, _+_}
 use lib.ListN.{replicate}
 use Rattle.laws.specs.Filled.{filled}
-use Rattle.laws.specs.Largest.{largestOf}
 use Rattle.streams.specs.declared.Stream.{Stream}
 use Rattle.counts.specs.Newest.{rankFlow}
-use Rattle.times.specs.Entry.{entry}
 use Rattle.limits.specs.Limits.{mostStreams, mostZones}
 use Rattle.junction.specs.declared.Junction.{Junction}
 use Rattle.junction.specs.declared.Zone.{Zone}
 use Rattle.junction_places.specs.Places.{zoneAt}
-use Rattle.junction_figures.specs.Figures.{zoneEntry, pairEntry, streamFlow, kindSaturation, streamSaturation}
+use Rattle.junction_figures.specs.Figures.{pairEntry, streamFlow, kindSaturation, streamSaturation}
 use Rattle.junction_tables.specs.declared.Conflict.{Conflict}
 use Rattle.junction_tables.specs.declared.Conflicts.{Conflicts}
 use Rattle.junction_tables.specs.declared.Load.{Load}
@@ -26,32 +22,6 @@ conflictOf j z =
       b = z .b .stream;
       atob = pairEntry j (z .a .stream) (z .b .stream);
       btoa = pairEntry j (z .b .stream) (z .a .stream);
-    }
-
--- two zones of the same pair of streams; each zone has its lower stream as a
-abbrev pub samePair : Zone → Zone → Bool
-samePair y z = eqb (y .a .stream) (z .a .stream) && eqb (y .b .stream) (z .b .stream)
-
--- the entries over the first k zones alone: with no zone looked at they are 0, and a zone of the pair may raise them
-abbrev pub conflictBy : Junction → Zone → ℕ → Conflict
-conflictBy j z k =
-    record {
-      a = z .a .stream;
-      b = z .b .stream;
-      atob = largestOf (λ i. zoneEntry j (z .a .stream) (z .b .stream) (zoneAt j i)) k;
-      btoa = largestOf (λ i. zoneEntry j (z .b .stream) (z .a .stream) (zoneAt j i)) k;
-    }
-
-abbrev pub noEntries : Zone → Conflict
-noEntries z = record { a = z .a .stream; b = z .b .stream; atob = 0; btoa = 0 }
-
-abbrev pub oneZoneMore : Conflict → Stream → Stream → Zone → Conflict
-oneZoneMore c first second y =
-    record {
-      a = c .a;
-      b = c .b;
-      atob = max (c .atob) (entry first second (y .a .clearing) (y .b .reaching));
-      btoa = max (c .btoa) (entry second first (y .b .clearing) (y .a .reaching));
     }
 
 abbrev pub noConflict : Conflict

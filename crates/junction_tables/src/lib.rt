@@ -1,14 +1,21 @@
-// The pair's entries at a zone, and flow, S and y of a stream; and tables of them, worked out once, since the search asks for them at every
-// length.
+// Of a taken junction: the entries of every pair of streams, those at each zone, and flow and S of each stream, worked out once, since the
+// search asks for them at every length.
 ghost use mathlib.Core.Path.{_≡_};
+ghost use lib.ListN.{length};
+ghost use Rattle.laws.specs.Ranges.{Between};
+ghost use Rattle.limits.specs.Limits.{mostStreams};
 ghost use Rattle.junction_file.specs.Taken.{Taken};
-ghost use Rattle.junction_tables.specs.Tables.{noConflict, samePair, noEntries, oneZoneMore, conflictsOf, noLoad, loadBy, loadsOf};
+ghost use Rattle.junction_figures.specs.Figures.{pairEntry};
+ghost use Rattle.junction_tables.specs.Pairs.{pairs, pairPlace, ByPair, raisedTo, conflictBy};
+ghost use Rattle.junction_tables.specs.Tables.{noConflict, conflictsOf, noLoad, loadBy, loadsOf};
 use junction::Junction;
-use junction::Zone;
 use laws::u16_larger;
 use limits::MOST_STREAMS;
 use limits::MOST_ZONES;
 use streams::Stream;
+
+// So many ordered pairs of streams.
+const PAIRS: usize = MOST_STREAMS * MOST_STREAMS;
 
 // A conflict zone: the numbers of its streams, and the entries of the pair in seconds, atob from a to b and btoa from b to a.
 pub struct Conflict {
@@ -45,64 +52,77 @@ fn no_conflict() -> Conflict
     }
 }
 
-// Whether two zones are of the same pair of streams.
-pub fn same_pair(y: Zone, z: Zone) -> bool
-    ensures { λ r. ⌜ r ≡ samePair y z ⌝ }
+// The place of the pair from stream n to stream m in a table of all pairs.
+fn pair_place(n: u8, m: u8) -> usize
+    requires from { ⌜ Between 1 mostStreams n ⌝ }
+    requires to { ⌜ Between 1 mostStreams m ⌝ }
+    ensures { λ r. ⌜ r ≡ pairPlace n m ⌝ }
 {
-    (y.a.stream == z.a.stream) & (y.b.stream == z.b.stream)
+    MOST_STREAMS * (n as usize - 1) + (m as usize - 1)
 }
 
-// The conflict of a zone before any zone of its pair is looked at: entries of 0.
-pub fn no_entries(z: Zone) -> Conflict
-    ensures { λ r. ⌜ r ≡ noEntries z ⌝ }
+// Raises the entry from stream n to stream m to that at one more zone of theirs, where that is larger.
+fn raise(entries: &mut [u16], n: u8, m: u8, entry: u16)
+    requires long { ⌜ length (now entries) ≡ pairs ⌝ }
+    requires from { ⌜ Between 1 mostStreams n ⌝ }
+    requires to { ⌜ Between 1 mostStreams m ⌝ }
+    ensures { λ r. ⌜ now (entries .exit) ≡ raisedTo (now (entries .entry)) n m entry ⌝ }
+{
+    let here = pair_place(n, m);
+    entries[here] = u16_larger(entries[here], entry);
+}
+
+// The entries of every pair of streams, by one pass over the zones; the two directions at a zone differ in its sides exchanged alone. The loop
+// stays in this function, since passing the junction on for each zone would copy all of it.
+fn pair_entries(j: Junction) -> [u16; PAIRS]
+    requires { ⌜ Taken j ⌝ }
+    ensures { λ r. ⌜ ByPair (pairEntry j) r ⌝ }
+{
+    let zones = j.held.zones;
+    let mut entries: [u16; PAIRS] = [0; PAIRS];
+    let mut i: usize = 0;
+    while i < zones {
+        let a = j.zones[i].a.stream;
+        let b = j.zones[i].b.stream;
+        let first = j.streams[a as usize - 1];
+        let second = j.streams[b as usize - 1];
+        let atob = times::entry(first, second, j.zones[i].a.clearing, j.zones[i].b.reaching);
+        raise(&mut entries, a, b, atob);
+        let btoa = times::entry(second, first, j.zones[i].b.clearing, j.zones[i].a.reaching);
+        raise(&mut entries, b, a, btoa);
+        i += 1;
+    }
+    entries
+}
+
+// Two streams with the entries of the pair.
+fn conflict_by(entries: &[u16], a: u8, b: u8) -> Conflict
+    requires long { ⌜ length (now entries) ≡ pairs ⌝ }
+    requires first { ⌜ Between 1 mostStreams a ⌝ }
+    requires second { ⌜ Between 1 mostStreams b ⌝ }
+    ensures { λ r. ⌜ r ≡ conflictBy (now (entries .entry)) a b ⌝ }
 {
     Conflict {
-        a: z.a.stream,
-        b: z.b.stream,
-        atob: 0,
-        btoa: 0,
+        a,
+        b,
+        atob: entries[pair_place(a, b)],
+        btoa: entries[pair_place(b, a)],
     }
 }
 
-// A conflict after one more zone of its pair, of the streams first and second: each entry is the larger of the one so far and the zone's.
-pub fn one_zone_more(c: Conflict, first: Stream, second: Stream, y: Zone) -> Conflict
-    ensures { λ r. ⌜ r ≡ oneZoneMore c first second y ⌝ }
-{
-    let atob = times::entry(first, second, y.a.clearing, y.b.reaching);
-    let btoa = times::entry(second, first, y.b.clearing, y.a.reaching);
-    Conflict {
-        a: c.a,
-        b: c.b,
-        atob: u16_larger(c.atob, atob),
-        btoa: u16_larger(c.btoa, btoa),
-    }
-}
-
-// The conflicts of a junction: at each zone, the entries are the largest over all zones of the pair. The loops stay in this function, since
-// passing the junction on for each zone would copy all of it.
+// The conflicts of a junction: at each zone the entries of its pair.
 pub fn conflicts_of(j: Junction) -> Conflicts
     requires { ⌜ Taken j ⌝ }
     ensures { λ r. ⌜ r ≡ conflictsOf j ⌝ }
 {
     let zones = j.held.zones;
+    let entries = pair_entries(j);
     let mut all = Conflicts {
         of: [no_conflict(); MOST_ZONES],
     };
     let mut i: usize = 0;
     while i < zones {
-        let z = j.zones[i];
-        let first = j.streams[z.a.stream as usize - 1];
-        let second = j.streams[z.b.stream as usize - 1];
-        let mut c = no_entries(z);
-        let mut k: usize = 0;
-        while k < zones {
-            let y = j.zones[k];
-            if same_pair(y, z) {
-                c = one_zone_more(c, first, second, y);
-            }
-            k += 1;
-        }
-        all.of[i] = c;
+        all.of[i] = conflict_by(&entries, j.zones[i].a.stream, j.zones[i].b.stream);
         i += 1;
     }
     all

@@ -1,17 +1,15 @@
 -- A number for each of the numbers 1 to some size, as a list: a figure of one of them raises its place alone, so one pass finds the largest
 -- figure of every one.
-use Prim.Native.Nat.{ℕ, _+_, _-_, _<_, max, zero-le}
-use native.Mathlib.Nat.{max-eq-left}
+use Prim.Native.Nat.{ℕ, _+_, _-_, _<_, max}
 use native.Mathlib.Omega.{arith}
 use mathlib.Core.Bool.{cond}
 use mathlib.Core.List.{List}
-use mathlib.Core.Logic.{_≢_}
 use mathlib.Core.Path.{_≡_, sym, _∙_}
 use lib.Dec.{eqb}
 use lib.ListN.{length, getD, set, replicate, length-set, length-replicate, getD-replicate}
-use lib.Seq.{getD-set-same, getD-set-other}
-use borrow.Author.Tests.{eqb-true, eqb-false}
+use borrow.Author.Tests.{eqb-true, eqb-false, eq-eqb, ne-eqb}
 use Rattle.laws.specs.Largest.{largestOf, largest-none, largest-next}
+use Rattle.laws.specs.Raised.{raised-at}
 use Rattle.laws.specs.Ranges.{Between}
 use Rattle.laws.specs.Tests.{by-test}
 
@@ -30,11 +28,11 @@ module _ {size : ℕ} where
   raised number p x y l before range e =
       record {
         long = length-set l (p - 1) y ∙ before .long;
-        each = λ i low. by-test (eqb p (i + 1))
-            (λ q. let own : p - 1 ≡ i = omega (arith, eqb-true p (i + 1) q) in
-            rw (q, e, own, getD-set-same l i (max (getD l i 0) x) 0 (rw (before .long) low), before .each i low))
-            (λ q. let other : i ≢ p - 1 = λ s. eqb-false p (i + 1) q (omega arith) in
-            rw (q, getD-set-other l (p - 1) i y 0 other, before .each i low) (sym (max-eq-left zero-le)));
+        each = λ i low.
+            let own : eqb (p - 1) i ≡ eqb p (i + 1) =
+            by-test (eqb p (i + 1)) (λ q. rw q (eq-eqb (p - 1) i (omega (arith, eqb-true p (i + 1) q))))
+            (λ q. rw q (ne-eqb (p - 1) i (λ s. eqb-false p (i + 1) q (omega arith)))) in
+            rw (e, ← before .each i low, ← own) (raised-at l (p - 1) i x (rw (before .long) (omega arith)));
       }
 
   -- the largest figures of none, and of one more

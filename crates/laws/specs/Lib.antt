@@ -1,6 +1,7 @@
 pub mod ByNumber
 pub mod Filled
 pub mod Largest
+pub mod Raised
 pub mod Ranges
 pub mod Rounding
 pub mod Search

@@ -4,8 +4,8 @@ use Prim.Native.Nat.{ℕ, _≤_, _<_}
 use mathlib.Core.Bool.{Bool, true, false, _&&_, _||_, false≢true}
 use mathlib.Core.Logic.{_⊎_, inl, inr}
 use mathlib.Core.Path.{_≡_, refl, sym, _∙_}
-use lib.Dec.{leb}
-use borrow.Author.Tests.{le-leb, lt-leb, leb-true, leb-false}
+use lib.Dec.{leb, eqb}
+use borrow.Author.Tests.{le-leb, lt-leb, leb-true, leb-false, eqb-true}
 
 pub by-test : {P : Type 0} (b : Bool) → (b ≡ true → P) → (b ≡ false → P) → P
 by-test true passes fails = passes refl
@@ -21,6 +21,10 @@ both-left false b p = p
 pub both-right : (a b : Bool) → (a && b) ≡ true → b ≡ true
 both-right true b p = p
 both-right false b p = absurd (false≢true p)
+
+-- two numbers that are two others
+pub two-same : (a b n m : ℕ) → (eqb a n && eqb b m) ≡ true → (a ≡ n) × (b ≡ m)
+two-same a b n m e = (eqb-true a n (both-left (eqb a n) _ e), eqb-true b m (both-right (eqb a n) _ e))
 
 pub either : (a b : Bool) → (a || b) ≡ true → (a ≡ true) ⊎ (b ≡ true)
 either true b p = inl refl

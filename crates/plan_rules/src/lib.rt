@@ -5,11 +5,12 @@ ghost use Rattle.limits.specs.Limits.{mostZones};
 ghost use Rattle.fields.specs.Verdict.{firstFailing};
 ghost use Rattle.fields.specs.declared.Verdict.the-variants.{Refused};
 ghost use Rattle.junction_file.specs.Taken.{Taken};
-ghost use Rattle.junction_tables.specs.Tables.{loadsOf};
+ghost use Rattle.junction_tables.specs.Tables.{loadsOf, conflictsOf};
 ghost use Rattle.plan_rules.specs.Rules.{off as offOf, needMetBy, needMet, enoughCapacity, capacityMetBy, capacityMet, zoneClear, zoneMet, rulesVerdict};
 use fields::Verdict;
 use junction::Junction;
 use junction_tables::Conflict;
+use junction_tables::Conflicts;
 use junction_tables::Load;
 use junction_tables::Loads;
 use plan_file::Green;
@@ -32,7 +33,7 @@ pub fn verdict(j: Junction, p: Plan) -> Verdict
     if unserved < streams {
         return broken(16, unserved);
     }
-    let unclear = first_zone_unmet(j, p);
+    let unclear = first_zone_unmet(j, junction_tables::conflicts_of(j), p);
     if unclear < zones {
         return broken(17, unclear);
     }
@@ -83,30 +84,17 @@ fn first_capacity_unmet(j: Junction, loads: Loads, p: Plan) -> usize
     i
 }
 
-// The first place of a zone whose streams' greens do not keep their entries apart; the number of zones where none is. The entries of
-// a zone are worked out as it is come to, and none after the first zone that breaks the rule; the loops stay in this function, as in
-// junction_tables::conflicts_of.
-fn first_zone_unmet(j: Junction, p: Plan) -> usize
-    requires { ⌜ Taken j ⌝ }
+// The first place of a zone whose streams' greens do not keep their entries apart; the number of zones where none is.
+fn first_zone_unmet(j: Junction, conflicts: Conflicts, p: Plan) -> usize
+    requires taken { ⌜ Taken j ⌝ }
+    requires conflicts { ⌜ conflicts ≡ conflictsOf j ⌝ }
     ensures { λ r. ⌜ r ≡ firstFailing (zoneMet j p) (j .held .zones) ⌝ }
 {
-    let zones = j.held.zones;
     let mut i: usize = 0;
-    while i < zones {
-        let z = j.zones[i];
-        let a = z.a.stream as usize - 1;
-        let b = z.b.stream as usize - 1;
-        let first = j.streams[a];
-        let second = j.streams[b];
-        let mut c = junction_tables::no_entries(z);
-        let mut k: usize = 0;
-        while k < zones {
-            let y = j.zones[k];
-            if junction_tables::same_pair(y, z) {
-                c = junction_tables::one_zone_more(c, first, second, y);
-            }
-            k += 1;
-        }
+    while i < j.held.zones {
+        let c = conflicts.of[i];
+        let a = c.a as usize - 1;
+        let b = c.b as usize - 1;
         if !zone_clear(p.cycle, p.greens[a], p.greens[b], c) {
             return i;
         }

@@ -30,13 +30,15 @@ stopTram length = 2 ∷ 0 ∷ 6 ∷ 2 ∷ 2 ∷ 1 ∷ length / 256 ∷ length % 
 unfoldable pub cyclist : ℕ → ℕ → List ℕ
 cyclist phase counted = 2 ∷ 0 ∷ 3 ∷ 4 ∷ phase ∷ counted ∷ []
 
--- a zone of two streams with the second's clearing distance: 140, 75, that, 0
-unfoldable pub zoneOver : ℕ → ℕ → ℕ → List ℕ
-zoneOver a b clearing = 3 ∷ 0 ∷ 10 ∷ a ∷ b ∷ 0 ∷ 140 ∷ 0 ∷ 75 ∷ clearing / 256 ∷ clearing % 256 ∷ 0 ∷ 0 ∷ []
+-- a zone of two streams: clearing and reaching distance of the first, then of the second
+unfoldable pub zoneBy : ℕ → ℕ → ℕ → ℕ → ℕ → ℕ → List ℕ
+zoneBy a b clearingA reachingA clearingB reachingB =
+    3 ∷ 0 ∷ 10 ∷ a ∷ b ∷ clearingA / 256 ∷ clearingA % 256 ∷ reachingA / 256 ∷ reachingA % 256 ∷
+    clearingB / 256 ∷ clearingB % 256 ∷ reachingB / 256 ∷ reachingB % 256 ∷ []
 
 unfoldable pub zone : ℕ → ℕ → List ℕ
-unfolding zoneOver
-zone a b = zoneOver a b 70
+unfolding zoneBy
+zone a b = zoneBy a b 140 75 70 0
 
 -- a count of stream 1, day 8,960 and so many, file day 0, with a flow
 unfoldable pub count : ℕ → ℕ → List ℕ

@@ -29,7 +29,7 @@ use Rattle.junction_phases.specs.JunctionPhases.{isIn, carIn, hasCars, phaseRat
 use Rattle.cycle_search.specs.Planning.{ratios, firstTried, phaseGreen, planAt, outcome, works, cycleFrom, cycle, found}
 use Rattle.planner.specs.WorkingOut.{calculation, junctionVerdict, junctionWorked, junctionBuffer, worked, buffer}
 use Rattle.worked_values.specs.Computed.{toTimes, toFlows, toPhases}
-use Rattle.whole_case.specs.Fields.{heading, car, pedestrian, island, stopTram, zoneOver, zone, count, cycle11, green12}
+use Rattle.whole_case.specs.Fields.{heading, car, pedestrian, island, stopTram, zoneBy, zone, count, cycle11, green12}
 
 -- WC: the junction file with design day 9,000, the car, the pedestrian, their zone, and 600 E/h counted on the design day
 unfoldable pub WC : List ℕ
@@ -148,8 +148,8 @@ island-left = refl
 -- WT: the whole case with a stop tram of 325 dm for the pedestrian, which clears 401 dm (document 02, 2026-02): by (11) at 400 it leaves after
 -- 12.04 s, and the car reaches after 2 s
 unfoldable pub WT : List ℕ
-unfolding heading car stopTram zoneOver count
-WT = heading ++ car 3 ++ stopTram 325 ++ zoneOver 1 2 401 ++ count 40 600
+unfolding heading car stopTram zoneBy count
+WT = heading ++ car 3 ++ stopTram 325 ++ zoneBy 1 2 140 75 401 0 ++ count 40 600
 
 -- so M is 4 and 11, L 4 - 1 + 10 + 11 = 24 and T0 65, and the plan of 65 s is accepted; the car has 65 - 24 - 1
 floor-planned : worked WT 21 ≡ record { verdict = Passed; cycle = 65; tried = 1; size = 21 }
@@ -159,3 +159,19 @@ floor-planned = refl
 floor-left : buffer WT (replicate 21 255) ≡ cycle11 65 ++ green12 1 0 40 ++ green12 2 44 10
 unfolding WT cycle11 green12 toPlan
 floor-left = refl
+
+-- the whole case with other distances in its zone (document 02, 2026-03)
+unfoldable pub withDistances : ℕ → ℕ → ℕ → ℕ → List ℕ
+unfolding heading car pedestrian zoneBy count
+withDistances clearing1 reaching1 clearing2 reaching2 =
+    heading ++ car 3 ++ pedestrian ++ zoneBy 1 2 clearing1 reaching1 clearing2 reaching2 ++ count 40 600
+
+-- from 1 to 2 as before with the two distances of that direction, 140 and 0; from 2 to 1 the pedestrian leaves at once
+there-alone : (pairEntry (reading (withDistances 140 999 0 0) .junction) 1 2 ≡ 5) × (pairEntry (reading (withDistances 140 999 0 0) .junction) 2 1 ≡ 0)
+unfolding withDistances toJudge
+there-alone = (refl, refl)
+
+-- from 2 to 1 as before with the two distances of that direction, 70 and 75; from 1 to 2 the car leaves after amber + 1 s
+back-alone : (pairEntry (reading (withDistances 0 75 70 999) .junction) 2 1 ≡ 4) × (pairEntry (reading (withDistances 0 75 70 999) .junction) 1 2 ≡ 4)
+unfolding withDistances toJudge
+back-alone = (refl, refl)

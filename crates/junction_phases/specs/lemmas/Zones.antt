@@ -6,20 +6,15 @@ use mathlib.Core.Bool.{true, _&&_}
 use mathlib.Core.Logic.{_↔_}
 use mathlib.Core.Path.{_≡_}
 use lib.Dec.{eqb}
-use borrow.Author.Tests.{eqb-true}
 use Rattle.laws.specs.Largest.{largestOf, largest-at-most}
 use Rattle.laws.specs.Ranges.{Between}
-use Rattle.laws.specs.Tests.{by-test, both, both-left, both-right}
+use Rattle.laws.specs.Tests.{by-test, both, both-left, both-right, two-same}
 use Rattle.junction.specs.declared.Junction.{Junction}
 use Rattle.junction_places.specs.Places.{zoneAt, zoneNumbered, zone-numbered-at}
 use Rattle.junction_file.specs.Taken.{Taken}
 use Rattle.junction_figures.specs.Figures.{forward, backward, zoneEntry, pairEntry, pair-least}
 use Rattle.junction_phases.specs.JunctionPhases.{isIn, entryBetween, phaseEntry}
 use Rattle.junction_phases.specs.Meaning.{only-at-most, entry-largest}
-
--- two numbers that are the two sought
-two-same : (a b n m : ℕ) → (eqb a n && eqb b m) ≡ true → (a ≡ n) × (b ≡ m)
-two-same a b n m e = (eqb-true a n (both-left (eqb a n) _ e), eqb-true b m (both-right (eqb a n) _ e))
 
 -- at a zone, both ways
 unfoldable pub zoneFigure : Junction → ℕ → ℕ → ℕ → ℕ

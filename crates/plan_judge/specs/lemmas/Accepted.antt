@@ -6,9 +6,9 @@ use mathlib.Core.List.{List}
 use mathlib.Core.Logic.{_↔_, ⊎-elim, inl, inr}
 use mathlib.Core.Path.{_≡_, refl, sym, subst}
 use lib.Dec.{leb, eqb}
-use borrow.Author.Tests.{leb-true, le-leb, eqb-true, eq-eqb}
+use borrow.Author.Tests.{leb-true, le-leb, eq-eqb}
 use Rattle.laws.specs.Ranges.{Between}
-use Rattle.laws.specs.Tests.{by-test, both, both-left, both-right}
+use Rattle.laws.specs.Tests.{by-test, both, both-left, both-right, two-same}
 use Rattle.fields.specs.Verdict.{both-passed, each-passed}
 use Rattle.fields.specs.declared.Verdict.the-variants.{Passed}
 use Rattle.junction.specs.declared.Junction.{Junction}
@@ -55,11 +55,11 @@ clear-exact cycle a b x y =
 
 forward-is : (n m : ℕ) (z : Zone) → forward n m z ≡ true → (z .a .stream ≡ n) × (z .b .stream ≡ m)
 unfolding forward
-forward-is n m z f = (eqb-true _ _ (both-left (eqb (z .a .stream) n) _ f), eqb-true _ _ (both-right (eqb (z .a .stream) n) _ f))
+forward-is n m z f = two-same (z .a .stream) (z .b .stream) n m f
 
 backward-is : (n m : ℕ) (z : Zone) → backward n m z ≡ true → (z .b .stream ≡ n) × (z .a .stream ≡ m)
 unfolding backward
-backward-is n m z f = (eqb-true _ _ (both-left (eqb (z .b .stream) n) _ f), eqb-true _ _ (both-right (eqb (z .b .stream) n) _ f))
+backward-is n m z f = two-same (z .b .stream) (z .a .stream) n m f
 
 same-number : (n : ℕ) → eqb n n ≡ true
 same-number n = eq-eqb n n refl
