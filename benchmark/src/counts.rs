@@ -1,6 +1,8 @@
 //! Instructions of library and plain Rust, counted by callgrind. The program runs itself once more under callgrind and hands the sets over
 //! in a file, since drawing them by the model would take minutes there.
-use crate::calls::{by_library, by_plain};
+use crate::calls;
+use crate::library::Library;
+use crate::plain::Plain;
 use crate::sets::{Case, Set, Task};
 use std::hint::black_box;
 use std::path::{Path, PathBuf};
@@ -47,8 +49,8 @@ pub fn run(file: &str) -> Result<(), String> {
     let sets = read_sets(&fs::read(file).map_err(|e| format!("{file}: {e}"))?);
     let run_all = || {
         for set in &sets {
-            counted(by_library, set);
-            counted(by_plain, set);
+            counted(calls::run::<Library>, set);
+            counted(calls::run::<Plain>, set);
         }
     };
     thread::scope(|scope| scope.spawn(run_all).join()).map_err(|_| "a call failed while it was counted".to_string())

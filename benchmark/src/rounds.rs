@@ -1,5 +1,7 @@
 //! Times of library and plain Rust, taken in turns.
-use crate::calls::{by_library, by_plain};
+use crate::calls;
+use crate::library::Library;
+use crate::plain::Plain;
 use crate::sets::Set;
 use std::time::{Duration, Instant};
 
@@ -58,6 +60,7 @@ fn seconds(program: fn(&Set), set: &Set, repeats: u32) -> f64 {
 /// Runs the two in turns. The ratio is taken of each turn, and is the median of these: what slows the machine for a while slows both
 /// programs of a turn.
 pub fn in_turns(set: &Set, rounds: Rounds) -> Times {
+    let (by_library, by_plain): (fn(&Set), fn(&Set)) = (calls::run::<Library>, calls::run::<Plain>);
     let often = |program| repeats(program, set, rounds.length);
     let (often_library, often_plain) = (often(by_library), often(by_plain));
     let (mut library, mut plain) = (vec![], vec![]);

@@ -1,28 +1,31 @@
 //! Library and plain Rust give the same answers, and those that the model states.
+use crate::calls::Program;
+use crate::library::Library;
+use crate::plain::{Plain, Refusal};
 use crate::sets::{Case, Set, Task};
-use crate::{library, plain, ROOM};
+use crate::ROOM;
 use model::cases::text_of;
 use model::faults::{aimed_at, faulty};
 use model::generate::{any_plan, rich_junction};
 use model::random::Random;
 
+// ---- the same answers
+
 fn assert_same_junction(file: &[u8]) {
-    assert_eq!(library::read(file), plain::read(file), "read of {}", text_of(file));
+    assert_eq!(Library::read(file), Plain::read(file), "read of {}", text_of(file));
 }
 
 fn assert_same_plan(file: &[u8]) {
     for size in [0, 20, 36, ROOM, ROOM + 9] {
         let (mut a, mut b) = (vec![0x5a; size], vec![0x5a; size]);
-        let library = library::work_out(file, &mut a);
-        let plain = plain::work_out(file, &mut b).map(|w| (w.cycle, w.tried));
-        assert_eq!(library, plain, "work_out of {}", text_of(file));
+        assert_eq!(Library::work_out(file, &mut a), Plain::work_out(file, &mut b), "work_out of {}", text_of(file));
         assert_eq!(a, b, "the plan of {}", text_of(file));
     }
 }
 
 fn assert_same_verdict(junction: &[u8], plan: &[u8]) {
     let texts = || (text_of(junction), text_of(plan));
-    assert_eq!(library::judge(junction, plan), plain::judge(junction, plan), "judge of {:?}", texts());
+    assert_eq!(Library::judge(junction, plan), Plain::judge(junction, plan), "judge of {:?}", texts());
 }
 
 /// Files that are neither counted nor timed, most of them refused.
@@ -38,45 +41,42 @@ pub fn assert_same_refusals(r: &mut Random, files: usize) {
     }
 }
 
-fn assert_stated_junction(case: &Case) {
-    let library = library::read(&case.junction).map_or_else(|refusal| refusal.number, |_| 0);
-    let plain = plain::read(&case.junction).map_or_else(|refusal| refusal.number, |_| 0);
-    assert_eq!((library, plain), (case.refusal, case.refusal), "the answers to {}", text_of(&case.junction));
+// ---- the stated answers
+
+fn number<T>(answer: Result<T, Refusal>) -> u8 {
+    answer.map_or_else(|refusal| refusal.number, |_| 0)
 }
 
-fn assert_stated_plan(case: &Case) {
-    let (mut a, mut b) = ([0; ROOM], [0; ROOM]);
-    let library = library::work_out(&case.junction, &mut a).map_or_else(|refusal| refusal.number, |_| 0);
-    let plain = plain::work_out(&case.junction, &mut b).map_or_else(|refusal| refusal.number, |_| 0);
-    let mut stated = [0; ROOM];
-    stated[..case.plan.len()].copy_from_slice(&case.plan);
-    assert_eq!((library, a), (case.refusal, stated), "the library's answer to {}", text_of(&case.junction));
-    assert_eq!((plain, b), (case.refusal, stated), "plain's answer to {}", text_of(&case.junction));
+/// The library's refusal, and what it leaves in a buffer of zeros.
+fn left_by_library(junction: &[u8]) -> (u8, [u8; ROOM]) {
+    let mut left = [0; ROOM];
+    let refusal = number(Library::work_out(junction, &mut left));
+    (refusal, left)
 }
 
-fn assert_stated_verdict(case: &Case) {
-    let texts = || (text_of(&case.junction), text_of(&case.plan));
-    let library = library::judge(&case.junction, &case.plan).map_or_else(|refusal| refusal.number, |()| 0);
-    let plain = plain::judge(&case.junction, &case.plan).map_or_else(|refusal| refusal.number, |()| 0);
-    assert_eq!(library, case.refusal, "the library's verdict on {:?}", texts());
-    assert_eq!(plain, case.refusal, "plain's verdict on {:?}", texts());
+fn stated_plan(case: &Case) -> (u8, [u8; ROOM]) {
+    let mut left = [0; ROOM];
+    left[..case.plan.len()].copy_from_slice(&case.plan);
+    (case.refusal, left)
 }
 
-/// Both give the stated answer to every case of a set, and the same in all that the model does not state.
+/// The library gives the stated answer to every case of a set, and plain Rust the same answers as the library.
 pub fn assert_stated(set: &Set) {
     for case in &set.cases {
+        let (junction, plan) = (&case.junction, &case.plan);
         match set.task {
             Task::Read => {
-                assert_stated_junction(case);
-                assert_same_junction(&case.junction);
+                assert_eq!(number(Library::read(junction)), case.refusal, "the answer to {}", text_of(junction));
+                assert_same_junction(junction);
             }
             Task::WorkOut => {
-                assert_stated_plan(case);
-                assert_same_plan(&case.junction);
+                assert_eq!(left_by_library(junction), stated_plan(case), "the plan of {}", text_of(junction));
+                assert_same_plan(junction);
             }
             Task::Judge => {
-                assert_stated_verdict(case);
-                assert_same_verdict(&case.junction, &case.plan);
+                let texts = || (text_of(junction), text_of(plan));
+                assert_eq!(number(Library::judge(junction, plan)), case.refusal, "the verdict on {:?}", texts());
+                assert_same_verdict(junction, plan);
             }
         }
     }

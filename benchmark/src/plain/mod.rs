@@ -4,9 +4,7 @@ mod judging;
 mod reading;
 mod working_out;
 
-pub use judging::judge;
-pub use reading::read;
-pub use working_out::work_out;
+use crate::calls::Program;
 
 /// A refusal's number and place.
 #[derive(Clone, Copy, PartialEq, Eq, Debug)]
@@ -26,4 +24,20 @@ pub struct Held {
 
 fn refuse<T>(number: u8, place: usize) -> Result<T, Refusal> {
     Err(Refusal { number, place })
+}
+
+pub struct Plain;
+
+impl Program for Plain {
+    fn read(junction: &[u8]) -> Result<Held, Refusal> {
+        reading::read(junction)
+    }
+
+    fn work_out(junction: &[u8], buffer: &mut [u8]) -> Result<(u16, u16), Refusal> {
+        working_out::work_out(junction, buffer)
+    }
+
+    fn judge(junction: &[u8], plan: &[u8]) -> Result<(), Refusal> {
+        judging::judge(junction, plan)
+    }
 }

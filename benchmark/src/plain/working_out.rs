@@ -4,12 +4,6 @@ use super::judging::{enough_capacity, zone_clear, Green};
 use super::reading::{Junction, Kind};
 use super::{refuse, Refusal};
 
-#[derive(Clone, Copy, PartialEq, Eq, Debug)]
-pub struct Worked {
-    pub cycle: u16,
-    pub tried: u16,
-}
-
 #[derive(Clone, Copy, Default)]
 struct Phase {
     cars: bool,
@@ -104,8 +98,9 @@ fn first_length(slow: bool, ratios: u64, lost: u64) -> u16 {
         .unwrap_or(181)
 }
 
+/// The cycle and how many lengths were tried.
 #[inline(never)]
-pub fn work_out(junction: &[u8], out: &mut [u8]) -> Result<Worked, Refusal> {
+pub fn work_out(junction: &[u8], out: &mut [u8]) -> Result<(u16, u16), Refusal> {
     let j = Junction::read(junction)?;
     let conflicts = Conflicts::new(&j);
     let loads = loads(&j);
@@ -162,5 +157,5 @@ pub fn work_out(junction: &[u8], out: &mut [u8]) -> Result<Worked, Refusal> {
         field[4..6].copy_from_slice(&greens[i].start.to_be_bytes());
         field[6..8].copy_from_slice(&greens[i].length.to_be_bytes());
     }
-    Ok(Worked { cycle, tried: cycle - first + 1 })
+    Ok((cycle, cycle - first + 1))
 }

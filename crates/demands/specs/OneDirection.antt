@@ -13,4 +13,4 @@ pub one-direction-alone : (one two : List ℕ) → reading one .verdict ≡ Pass
     → (from to : ℕ) → SameDirection from to (reading one .junction) (reading two .junction)
     → intergreenAnswer one from to ≡ intergreenAnswer two from to
 unfolding intergreenAnswer intergreenVerdict exists
-one-direction-alone one two is is′ from to same = rw (is, is′, same .held, pair-others-unused from to _ _ same)
+one-direction-alone one two is is′ from to same = rw (is, is′, same .manyStreams, pair-others-unused from to _ _ same)

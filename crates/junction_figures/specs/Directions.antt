@@ -42,42 +42,44 @@ one-direction j z x y sides apart =
     both-directions j (x .stream) (y .stream) z
     ∙ ⊎-elim (λ w. rw (w .0, w .1, from, to)) (λ w. rw (w .0, w .1, crossed, from, to)) sides
 
--- two sides alike in what the direction from stream n to stream m uses: their streams, and where they are n and m the one's clearing and the
--- other's reaching distance
-pub record SameUse (n m : ℕ) (x y x′ y′ : Side) : Type 0 where
-  pub from : x .stream ≡ x′ .stream
-  pub to : y .stream ≡ y′ .stream
-  pub distances : x .stream ≡ n → y .stream ≡ m → (x .clearing ≡ x′ .clearing) × (y .reaching ≡ y′ .reaching)
+-- two sides alike in what the direction from stream n to stream m uses: where they are of n and m, the one's clearing and the other's reaching
+-- distance
+abbrev pub SameUse : ℕ → ℕ → Side → Side → Side → Side → Type 0
+SameUse n m x y x′ y′ = x .stream ≡ n → y .stream ≡ m → (x .clearing ≡ x′ .clearing) × (y .reaching ≡ y′ .reaching)
 
--- two zones: in either order of their sides
+-- two zones: of the same streams, in either order of their sides
 pub record SameZone (n m : ℕ) (z z′ : Zone) : Type 0 where
+  pub a : z .a .stream ≡ z′ .a .stream
+  pub b : z .b .stream ≡ z′ .b .stream
   pub atob : SameUse n m (z .a) (z .b) (z′ .a) (z′ .b)
   pub btoa : SameUse n m (z .b) (z .a) (z′ .b) (z′ .a)
 
--- two junctions: at each zone
+-- two junctions: with the same streams, and at each zone
 pub record SameDirection (n m : ℕ) (j j′ : Junction) : Type 0 where
   pub streams : j .streams ≡ j′ .streams
-  pub held : j .held ≡ j′ .held
+  pub manyStreams : j .held .streams ≡ j′ .held .streams
+  pub manyZones : j .held .zones ≡ j′ .held .zones
   pub zones : (i : ℕ) → i < j .held .zones → SameZone n m (zoneAt j i) (zoneAt j′ i)
 
 module _ (n m : ℕ) (j j′ : Junction) where
   module _ (streams : j .streams ≡ j′ .streams) where
-    direction-same : (x y x′ y′ : Side) (other other′ : ℕ) → SameUse n m x y x′ y′ → other ≡ other′
-        → oneDirection j n m x y other ≡ oneDirection j′ n m x′ y′ other′
-    direction-same x y x′ y′ other other′ same rest =
-        rw (← same .from, ← same .to)
+    direction-same : (x y x′ y′ : Side) (other other′ : ℕ) → x .stream ≡ x′ .stream → y .stream ≡ y′ .stream → SameUse n m x y x′ y′
+        → other ≡ other′ → oneDirection j n m x y other ≡ oneDirection j′ n m x′ y′ other′
+    direction-same x y x′ y′ other other′ from to same rest =
+        rw (← from, ← to)
         (by-test (eqb (x .stream) n && eqb (y .stream) m)
         (λ e.
         let is = two-same (x .stream) (y .stream) n m e in
-        let used = same .distances (is .0) (is .1) in
+        let used = same (is .0) (is .1) in
         rw (e, numbered-same j j′ streams n, numbered-same j j′ streams m, used .0, used .1))
         (λ e. rw e rest))
 
     -- the other two distances change nothing at a zone
     pub others-unused : (z z′ : Zone) → SameZone n m z z′ → zoneEntry j n m z ≡ zoneEntry j′ n m z′
     others-unused z z′ same =
+        let back = direction-same (z .b) (z .a) (z′ .b) (z′ .a) 0 0 (same .b) (same .a) (same .btoa) refl in
         both-directions j n m z
-        ∙ direction-same _ _ _ _ _ _ (same .atob) (direction-same _ _ _ _ 0 0 (same .btoa) refl)
+        ∙ direction-same (z .a) (z .b) (z′ .a) (z′ .b) _ _ (same .a) (same .b) (same .atob) back
         ∙ sym (both-directions j′ n m z′)
 
   -- and so for the pair
@@ -86,4 +88,4 @@ module _ (n m : ℕ) (j j′ : Junction) where
   pair-others-unused same =
       largest-same (λ i. zoneEntry j n m (zoneAt j i)) (λ i. zoneEntry j′ n m (zoneAt j′ i)) (j .held .zones)
       (λ i low. others-unused (same .streams) (zoneAt j i) (zoneAt j′ i) (same .zones i low))
-      ∙ ap (λ h. largestOf (λ i. zoneEntry j′ n m (zoneAt j′ i)) (h .zones)) (same .held)
+      ∙ ap (largestOf (λ i. zoneEntry j′ n m (zoneAt j′ i))) (same .manyZones)

@@ -10,7 +10,7 @@ use lib.Seq.{getD-set-same, getD-set-other}
 use borrow.Author.Tests.{eqb-true, eqb-false}
 use Rattle.laws.specs.Tests.{by-test}
 
--- the number at place p is, seen at any place q
+-- what stands at place q once the number at place p is raised
 pub raised-at : (l : List ℕ) (p q x : ℕ) → p < length l → getD (set l p (max (getD l p 0) x)) q 0 ≡ max (getD l q 0) (cond (eqb p q) x 0)
 raised-at l p q x low =
     by-test (eqb p q)

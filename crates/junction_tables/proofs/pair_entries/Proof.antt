@@ -9,7 +9,7 @@ use Rattle.laws.specs.Ranges.{Between}
 use Rattle.limits.specs.Limits.{mostStreams}
 use Rattle.junction_places.specs.Blank.{noZone}
 use Rattle.junction_tables.specs.Pairs.{ByPair}
-use Rattle.junction_tables.specs.lemmas.Pairs.{entriesOver, entries-none, entries-whole, zone-ends, zone-turn}
+use Rattle.junction_tables.specs.lemmas.Pairs.{entriesOver, entries-none, entries-whole, zone-ends, zone-raises}
 use Rattle.junction_tables.proofs.pair_entries.Statement.{statement}
 use Rattle.junction_tables.proofs.pair_entries.Tie as tie
 
@@ -50,7 +50,7 @@ loop-again c =
     let btoa = c .before .before .before .entry2 .ensures in (
       omega arith,
       rw (c .before .raise2 .ensures, c .before .before .before .before .before .raise .ensures, atob, btoa)
-          (zone-turn (s .args .t1) (s .pre) (l .i) (turn .loop-test .taken) (l .entries) (l .inv .1)),
+          (zone-raises (s .args .t1) (s .pre) (l .i) (turn .loop-test .taken) (l .entries) (l .inv .1)),
     )
 
 returns : tie.Need-returns Inv-loop μ-loop

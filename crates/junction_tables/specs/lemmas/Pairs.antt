@@ -43,7 +43,7 @@ own-place a b n m ra rb rn rm =
     true≢false (sym (both (eqb a n) (eqb b m) (eq-eqb a n first) (eq-eqb b m second)) ∙ e))))
 
 module _ (j : Junction) where
-  -- the figures over the first k zones
+  -- the entries over the first k zones
   abbrev pub entriesOver : ℕ → ℕ → ℕ → ℕ
   entriesOver k n m = largestOf (λ i. zoneEntry j n m (zoneAt j i)) k
 
@@ -108,14 +108,14 @@ module _ (j : Junction) where
         }
 
     -- the zone at a place raises both entries of its pair
-    pub zone-turn : (i : ℕ) → i < j .held .zones → (l : List ℕ) → ByPair (entriesOver i) l
+    pub zone-raises : (i : ℕ) → i < j .held .zones → (l : List ℕ) → ByPair (entriesOver i) l
         → let z = getD (j .zones) i noZone in
         let first = getD (j .streams) (z .a .stream - 1) noStream in
         let second = getD (j .streams) (z .b .stream - 1) noStream in
         ByPair (entriesOver (i + 1))
         (raisedTo (raisedTo l (z .a .stream) (z .b .stream) (entry first second (z .a .clearing) (z .b .reaching)))
         (z .b .stream) (z .a .stream) (entry second first (z .b .clearing) (z .a .reaching)))
-    zone-turn i low l before =
+    zone-raises i low l before =
         let z = getD (j .zones) i noZone in
         let right = zone-right j taken i low in
         rw (number-place j taken (z .a .stream) (right .a .existing), number-place j taken (z .b .stream) (right .b .existing))
