@@ -12,7 +12,7 @@ use Rattle.exact_times.specs.Farther.{in-time-farther}
 use Rattle.exact_times.specs.Leaves.{LeavesInTime}
 use Rattle.junction.specs.declared.Junction.{Junction}
 use Rattle.junction.specs.declared.Side.{Side}
-use Rattle.junction_places.specs.Places.{countAt, streamNumbered, numbered-same, zoneAt, zone-numbered-at, exists}
+use Rattle.junction_places.specs.Places.{countAt, streamNumbered, numbered-by-streams, zoneAt, zone-numbered-at, exists}
 use Rattle.junction_places.specs.Ranks.{newestRank, rankAt}
 use Rattle.junction_file.specs.Reading.{reading}
 use Rattle.junction_file.specs.Taken.{Taken}
@@ -49,7 +49,7 @@ pub record NeverSooner (near far : List ℕ) : Type 0 where
 
 module _ (near far : Junction) (farther : Farther near far) where
   stream-same : (n : ℕ) → streamNumbered far n ≡ streamNumbered near n
-  stream-same = numbered-same far near (farther .streams)
+  stream-same = numbered-by-streams far near (farther .streams)
 
   -- who leaves in time with the longer distance does with the shorter
   in-time-nearer : (x x′ y y′ : Side) → FartherSide x x′ → FartherSide y y′ → (seconds : ℕ)

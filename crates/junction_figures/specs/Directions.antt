@@ -13,7 +13,7 @@ use Rattle.times.specs.Entry.{entry}
 use Rattle.junction.specs.declared.Junction.{Junction}
 use Rattle.junction.specs.declared.Side.{Side}
 use Rattle.junction.specs.declared.Zone.{Zone}
-use Rattle.junction_places.specs.Places.{streamNumbered, numbered-same, zoneAt}
+use Rattle.junction_places.specs.Places.{streamNumbered, numbered-by-streams, zoneAt}
 use Rattle.junction_figures.specs.Figures.{forward, backward, zoneEntry, pairEntry}
 
 -- from stream n to stream m by two sides of a zone: where x is of n and y of m, the entry by the clearing distance of x and the reaching
@@ -71,7 +71,7 @@ module _ (n m : ℕ) (j j′ : Junction) where
         (λ e.
         let is = two-same (x .stream) (y .stream) n m e in
         let used = same (is .0) (is .1) in
-        rw (e, numbered-same j j′ streams n, numbered-same j j′ streams m, used .0, used .1))
+        rw (e, numbered-by-streams j j′ streams n, numbered-by-streams j j′ streams m, used .0, used .1))
         (λ e. rw e rest))
 
     -- the other two distances change nothing at a zone

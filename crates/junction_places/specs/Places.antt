@@ -31,9 +31,9 @@ pub numbered-at : (j : Junction) (n : ℕ) → 0 < n → streamNumbered j n ≡ 
 unfolding streamNumbered
 numbered-at j n h = rw (ne-eqb n 0 (ne-of-gt h))
 
-pub numbered-same : (j j′ : Junction) → j .streams ≡ j′ .streams → (n : ℕ) → streamNumbered j n ≡ streamNumbered j′ n
+pub numbered-by-streams : (j j′ : Junction) → j .streams ≡ j′ .streams → (n : ℕ) → streamNumbered j n ≡ streamNumbered j′ n
 unfolding streamNumbered streamAt
-numbered-same j j′ streams n = rw streams
+numbered-by-streams j j′ streams n = rw streams
 
 -- the zone with a number, from 1
 unfoldable pub zoneNumbered : Junction → ℕ → Zone
