@@ -70,8 +70,9 @@ module _ (n m : ℕ) (j j′ : Junction) where
         (by-test (eqb (x .stream) n && eqb (y .stream) m)
         (λ e.
         let is = two-same (x .stream) (y .stream) n m e in
-        let used = same (is .0) (is .1) in
-        rw (e, numbered-by-streams j j′ streams n, numbered-by-streams j j′ streams m, used .0, used .1))
+        let clearing : x .clearing ≡ x′ .clearing = same (is .0) (is .1) .0 in
+        let reaching : y .reaching ≡ y′ .reaching = same (is .0) (is .1) .1 in
+        rw (e, numbered-by-streams j j′ streams n, numbered-by-streams j j′ streams m, clearing, reaching))
         (λ e. rw e rest))
 
     -- the other two distances change nothing at a zone

@@ -4,7 +4,7 @@ use native.Mathlib.Nat.{max-eq-left}
 use native.Mathlib.Omega.{arith}
 use mathlib.Core.Bool.{false, _&&_, true≢false}
 use mathlib.Core.List.{List}
-use mathlib.Core.Path.{_≡_, sym, _∙_}
+use mathlib.Core.Path.{_≡_, sym, _∙_, ap}
 use lib.Dec.{eqb}
 use lib.ListN.{length, getD, replicate, length-set, length-replicate, getD-replicate}
 use borrow.Author.Tests.{eq-eqb, ne-eqb}
@@ -85,8 +85,10 @@ module _ (j : Junction) where
         → let z = getD (j .zones) i noZone in
         conflictBy l (z .a .stream) (z .b .stream) ≡ conflictOf j (zoneAt j i)
     zone-conflict l by i low =
+        let a = getD (j .zones) i noZone .a .stream in
+        let b = getD (j .zones) i noZone .b .stream in
         let ends = zone-ends i low in
-        rw (by .each _ _ (ends .0) (ends .1), by .each _ _ (ends .1) (ends .0), zone-place j taken i low)
+        simp (by .each a b (ends .0) (ends .1), by .each b a (ends .1) (ends .0)) (ap (conflictOf j) (zone-place j taken i low))
 
     -- from the stream of one side to that of the other
     raised-direction : (number : ℕ → ℕ → ℕ) (l : List ℕ) → ByPair number l → (x y : Side) → SideRight j x → SideRight j y
