@@ -40,7 +40,7 @@ extern "C" {
 
 /* The release of this header, raised by every release that changes a struct or what a function takes. Header and library belong together
  * where givendra_release() == GIVENDRA_RELEASE: a program looks once, before any other call. */
-#define GIVENDRA_RELEASE 1
+#define GIVENDRA_RELEASE 2
 uint32_t givendra_release(void);
 
 /* More bytes of stack than any call takes. */
@@ -63,6 +63,7 @@ struct givendra_junction_answer {
     size_t place;
     uint8_t refusal;
     uint16_t design_day; /* days from 1 January 2000 as 0 */
+    uint8_t period;      /* the period that is planned, 1 to 4 */
     size_t streams;
     size_t zones;
     size_t counts;
@@ -74,12 +75,14 @@ struct givendra_figure {
     uint32_t value;
 };
 
-/* One traffic count: the stream's number, the day of the count, the day of its file (of no effect), the flow in E/h. */
+/* One traffic count: the stream's number, the day of the count, the day of its file (of no effect), the flow in E/h, and the period of the day,
+ * 1 to 4. */
 struct givendra_count_record {
     uint8_t stream;
     uint16_t count_day;
     uint16_t file_day;
     uint16_t flow;
+    uint8_t period;
 };
 
 /* Judges a plan file for a junction file: refusal 0 where the plan is accepted. */
@@ -92,7 +95,7 @@ struct givendra_judge_answer givendra_judge(const uint8_t *junction, size_t junc
  * alters no byte. The junction's questions come first, then 21, 22 and 23. */
 struct givendra_plan_answer givendra_work_out(const uint8_t *junction, size_t junction_length, uint8_t *buffer, size_t buffer_length);
 
-/* Reads a junction file: its design day, and how many streams, zones and counts it has. */
+/* Reads a junction file: its design day, the period that it plans, and how many streams, zones and counts, of all periods, it has. */
 struct givendra_junction_answer givendra_read_junction(const uint8_t *junction, size_t junction_length);
 
 /* Figures of a junction file's streams, which are numbered from 1. The junction's questions come first; then 7, place the number asked
@@ -111,9 +114,10 @@ struct givendra_figure givendra_saturation_flow(const uint8_t *junction, size_t 
 /* Flow ratio of a car stream, in ten-thousandths, rounded up. */
 struct givendra_figure givendra_flow_ratio(const uint8_t *junction, size_t junction_length, size_t stream);
 
-/* The flow of a stream by a list of so many counts, in E/h: that of the latest count day not after the design day, of equal days the larger
- * flow. Records of other streams, after the design day, or with a flow not from 1 to 9,999 are passed over; 9, place the stream, where none is left. */
-struct givendra_figure givendra_newest_count(const struct givendra_count_record *list, size_t list_length, size_t stream, uint16_t design_day);
+/* The flow of a stream in a period by a list of so many counts, in E/h: that of the latest count day not after the design day, of equal days the
+ * larger flow. Records of other streams or periods, after the design day, or with a flow not from 1 to 9,999 are passed over; 9, place the
+ * stream, where none is left, so always where the period is not from 1 to 4. */
+struct givendra_figure givendra_newest_count(const struct givendra_count_record *list, size_t list_length, size_t stream, uint16_t design_day, size_t period);
 
 #ifdef __cplusplus
 }
@@ -134,7 +138,7 @@ static inline const char *givendra_refusal_text(unsigned number)
     case 6: return "more than 16 streams, 64 conflict zones or 128 counts";
     case 7: return "a stream does not exist or does not suit";
     case 8: return "no heading, no car, or the phases used are not exactly 1 to some number, 2 or more";
-    case 9: return "the stream has no usable count";
+    case 9: return "the stream has no usable count in the period";
     case 11: return "a field of the plan file does not fit";
     case 12: return "not the field of the plan file that is due, or bytes after the last";
     case 13: return "a cycle, or a green's start or length, is out of range";

@@ -17,7 +17,7 @@ import ctypes
 import operator
 import os
 
-RELEASE = 1
+RELEASE = 2
 
 _TEXTS = {
     0: "nothing is refused",
@@ -29,7 +29,7 @@ _TEXTS = {
     6: "more than 16 streams, 64 conflict zones or 128 counts",
     7: "a stream does not exist or does not suit",
     8: "no heading, no car, or the phases used are not exactly 1 to some number, 2 or more",
-    9: "the stream has no usable count",
+    9: "the stream has no usable count in the period",
     11: "a field of the plan file does not fit",
     12: "not the field of the plan file that is due, or bytes after the last",
     13: "a cycle, or a green's start or length, is out of range",
@@ -60,8 +60,8 @@ class Refused(Exception):
         return "refused %d %d: %s" % (self.number, self.place, self.text)
 
 
-Junction = collections.namedtuple("Junction", "design_day streams zones counts")
-Junction.__doc__ = "What a junction file holds; the design day in days from 1 January 2000 as 0."
+Junction = collections.namedtuple("Junction", "design_day period streams zones counts")
+Junction.__doc__ = "What a junction file holds; the design day in days from 1 January 2000 as 0, and the period that is planned, 1 to 4."
 
 Plan = collections.namedtuple("Plan", "file cycle tried")
 Plan.__doc__ = "A plan that was worked out: its file's bytes, the cycle, and how many lengths were tried up to it."
@@ -69,8 +69,8 @@ Plan.__doc__ = "A plan that was worked out: its file's bytes, the cycle, and how
 Worked = collections.namedtuple("Worked", "cycle tried size")
 Worked.__doc__ = "The same where the plan file is in a lent buffer: size is how many bytes it has there."
 
-Count = collections.namedtuple("Count", "stream count_day file_day flow")
-Count.__doc__ = "One traffic count: the stream, the day of the count, the day of its file (of no effect), the flow."
+Count = collections.namedtuple("Count", "stream count_day file_day flow period")
+Count.__doc__ = "One traffic count: the stream, the day of the count, the day of its file (of no effect), the flow, the period of the day, 1 to 4."
 
 Green = collections.namedtuple("Green", "start length")
 Green.__doc__ = "A stream's green in a plan: where in the cycle it starts and how long it lasts."
@@ -90,7 +90,8 @@ class _PlanAnswer(ctypes.Structure):
 
 
 class _JunctionAnswer(ctypes.Structure):
-    _fields_ = _refusal + [("design_day", ctypes.c_uint16), ("streams", ctypes.c_size_t), ("zones", ctypes.c_size_t), ("counts", ctypes.c_size_t)]
+    _fields_ = _refusal + [("design_day", ctypes.c_uint16), ("period", ctypes.c_uint8), ("streams", ctypes.c_size_t), ("zones", ctypes.c_size_t),
+                           ("counts", ctypes.c_size_t)]
 
 
 class _Figure(ctypes.Structure):
@@ -98,7 +99,8 @@ class _Figure(ctypes.Structure):
 
 
 class _CountRecord(ctypes.Structure):
-    _fields_ = [("stream", ctypes.c_uint8), ("count_day", ctypes.c_uint16), ("file_day", ctypes.c_uint16), ("flow", ctypes.c_uint16)]
+    _fields_ = [("stream", ctypes.c_uint8), ("count_day", ctypes.c_uint16), ("file_day", ctypes.c_uint16), ("flow", ctypes.c_uint16),
+                ("period", ctypes.c_uint8)]
 
 
 _file = [ctypes.c_char_p, ctypes.c_size_t]
@@ -111,7 +113,7 @@ _FUNCTIONS = {
     "need": (_Figure, _file + [ctypes.c_size_t, ctypes.c_uint16]),
     "saturation_flow": (_Figure, _file + [ctypes.c_size_t]),
     "flow_ratio": (_Figure, _file + [ctypes.c_size_t]),
-    "newest_count": (_Figure, [ctypes.POINTER(_CountRecord), ctypes.c_size_t, ctypes.c_size_t, ctypes.c_uint16]),
+    "newest_count": (_Figure, [ctypes.POINTER(_CountRecord), ctypes.c_size_t, ctypes.c_size_t, ctypes.c_uint16, ctypes.c_size_t]),
 }
 
 
@@ -220,13 +222,13 @@ def flow_ratio(junction, stream):
     return _answer("flow_ratio", *_lent(junction), _stream(stream)).value
 
 
-def newest_count(counts, stream, design_day):
-    """The flow of a stream by counts, each a Count or four numbers like it: that of the latest count day not after the design day, of equal
-    days the larger flow."""
+def newest_count(counts, stream, design_day, period):
+    """The flow of a stream in a period by counts, each a Count or five numbers like it: that of the latest count day not after the design day, of
+    equal days the larger flow."""
     bits = [(name, 8 * ctypes.sizeof(kind)) for name, kind in _CountRecord._fields_]
     records = [_CountRecord(*(_whole(n, b, name) for n, (name, b) in zip(Count(*count), bits))) for count in counts]
     lent = (_CountRecord * len(records))(*records)
-    return _answer("newest_count", lent, len(lent), _stream(stream), _whole(design_day, 16, "a design day")).value
+    return _answer("newest_count", lent, len(lent), _stream(stream), _whole(design_day, 16, "a design day"), _whole(period, 64, "a period")).value
 
 
 # ---- the plan file

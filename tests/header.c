@@ -1,5 +1,5 @@
 /* Calls every function of include/givendra.h and prints every member of its answers. tests/library.sh compiles it as C and as C++ and compares
- * what each prints with tests/header.txt, whose lines are worked out by hand from document 01 and the annex's tables. It also runs each under
+ * what each prints with tests/header.txt, whose lines are worked out by hand from documents 01 and 02 and the annex's tables. It also runs each under
  * valgrind. */
 #include "givendra.h"
 #include <stdio.h>
@@ -14,32 +14,45 @@ struct file {
 
 #define LENGTH(array) (sizeof(array) / sizeof((array)[0]))
 
-/* Document 01's whole case on the design day 9000, field by field: each with its offset. */
-#define HEADING 0x01, 0x00, 0x04, 0x00, 0x07, 0x23, 0x28                                                     /* 0 */
-#define CAR 0x02, 0x00, 0x0d, 0x01, 0x01, 0x03, 0x00, 0x00, 0x00, 0x01, 0x5e, 0x01, 0x0a, 0x02, 0x00, 0x00   /* 7, phase 1 */
-#define PEDESTRIAN 0x02, 0x00, 0x09, 0x03, 0x02, 0x0c, 0x00, 0x46, 0x00, 0xc8, 0x00, 0x00                    /* 23, phase 2 */
-#define ZONE 0x03, 0x00, 0x0a, 0x01, 0x02, 0x00, 0x8c, 0x00, 0x4b, 0x00, 0x46, 0x00, 0x00                    /* 35 */
-#define COUNT(high, low) 0x04, 0x00, 0x07, 0x01, 0x23, 0x28, 0x00, 0x00, high, low                           /* 48, up to 58 */
+/* Document 01's whole case on the design day 9000, field by field: each with its offset. Its heading and its count are of period 1. */
+#define HEADING(period) 0x01, 0x00, 0x05, 0x00, 0x07, 0x23, 0x28, period                                     /* 0 */
+#define CAR 0x02, 0x00, 0x0d, 0x01, 0x01, 0x03, 0x00, 0x00, 0x00, 0x01, 0x5e, 0x01, 0x0a, 0x02, 0x00, 0x00   /* 8, phase 1 */
+#define PEDESTRIAN 0x02, 0x00, 0x09, 0x03, 0x02, 0x0c, 0x00, 0x46, 0x00, 0xc8, 0x00, 0x00                    /* 24, phase 2 */
+#define ZONE 0x03, 0x00, 0x0a, 0x01, 0x02, 0x00, 0x8c, 0x00, 0x4b, 0x00, 0x46, 0x00, 0x00                    /* 36 */
+#define COUNT(high, low, period) 0x04, 0x00, 0x08, 0x01, 0x23, 0x28, 0x00, 0x00, high, low, period           /* 49, up to 60 */
 /* A running tram in phase 2, 300 dm long, 18 an hour. It shares no zone. */
 #define TRAM 0x02, 0x00, 0x06, 0x02, 0x02, 0x00, 0x01, 0x2c, 0x12
 
-static const uint8_t whole_bytes[] = {HEADING, CAR, PEDESTRIAN, ZONE, COUNT(0x02, 0x58)}; /* 600 E/h */
-static const uint8_t tram_bytes[] = {HEADING, CAR, PEDESTRIAN, TRAM, ZONE, COUNT(0x02, 0x58)};
-static const uint8_t full_bytes[] = {HEADING, CAR, PEDESTRIAN, ZONE, COUNT(0x07, 0x85)}; /* 1,925 E/h */
-static const uint8_t busy_bytes[] = {HEADING, CAR, PEDESTRIAN, ZONE, COUNT(0x07, 0x22)}; /* 1,826 E/h */
+static const uint8_t whole_bytes[] = {HEADING(1), CAR, PEDESTRIAN, ZONE, COUNT(0x02, 0x58, 1)}; /* 600 E/h */
+static const uint8_t tram_bytes[] = {HEADING(1), CAR, PEDESTRIAN, TRAM, ZONE, COUNT(0x02, 0x58, 1)};
+static const uint8_t full_bytes[] = {HEADING(1), CAR, PEDESTRIAN, ZONE, COUNT(0x07, 0x85, 1)}; /* 1,925 E/h */
+static const uint8_t busy_bytes[] = {HEADING(1), CAR, PEDESTRIAN, ZONE, COUNT(0x07, 0x22, 1)}; /* 1,826 E/h */
+static const uint8_t first_bytes[] = {HEADING(1), CAR, PEDESTRIAN, ZONE, COUNT(0x02, 0x58, 1), COUNT(0x03, 0x84, 2)}; /* and 900 E/h in period 2 */
+static const uint8_t second_bytes[] = {HEADING(2), CAR, PEDESTRIAN, ZONE, COUNT(0x02, 0x58, 1), COUNT(0x03, 0x84, 2)};
+static const uint8_t third_bytes[] = {HEADING(3), CAR, PEDESTRIAN, ZONE, COUNT(0x02, 0x58, 1), COUNT(0x03, 0x84, 2)};
+static const uint8_t heavy_bytes[] = {HEADING(2), CAR, PEDESTRIAN, ZONE, COUNT(0x02, 0x58, 1), COUNT(0x05, 0x78, 2)}; /* 1,400 E/h in period 2 */
+static const uint8_t fifth_bytes[] = {HEADING(5), CAR, PEDESTRIAN, ZONE, COUNT(0x02, 0x58, 5)};
+static const uint8_t old_bytes[] = {0x01, 0x00, 0x04, 0x00, 0x07, 0x23, 0x28, CAR, PEDESTRIAN, ZONE, COUNT(0x02, 0x58, 1)};
 
 static struct file whole = {"the whole case", whole_bytes, sizeof whole_bytes};
 static struct file with_tram = {"with a tram", tram_bytes, sizeof tram_bytes};
 static struct file full = {"flow 1,925", full_bytes, sizeof full_bytes};
 static struct file busy = {"flow 1,826", busy_bytes, sizeof busy_bytes};
+static struct file first = {"two periods in the first", first_bytes, sizeof first_bytes};
+static struct file second = {"two periods in the second", second_bytes, sizeof second_bytes};
+static struct file heavy = {"1,400 E/h in the second", heavy_bytes, sizeof heavy_bytes};
 
-/* Files that are refused, whatever else is asked: the empty one, also at NULL, by 8 at its length; without its last byte the count does not fit, 2 at 48;
- * without its count the car has none, 9 at stream 1. */
+/* Files that are refused, whatever else is asked: the empty one, also at NULL, by 8 at its length; without its last byte the count does not fit, 2 at 49;
+ * without its count, or with counts of other periods alone, the car has none in the period, 9 at stream 1; there is no period 5, 5 at 0; a heading
+ * had 4 bytes in earlier releases, 4 at 0. */
 static struct file refused[] = {
     {"no byte", whole_bytes, 0},
     {"no byte at NULL", NULL, 0},
-    {"the last byte cut off", whole_bytes, 57},
-    {"no count", whole_bytes, 48},
+    {"the last byte cut off", whole_bytes, 59},
+    {"no count", whole_bytes, 49},
+    {"two periods in the third", third_bytes, sizeof third_bytes},
+    {"period 5", fifth_bytes, sizeof fifth_bytes},
+    {"a heading of 4 bytes", old_bytes, sizeof old_bytes},
 };
 
 /* Numbers that no stream of the whole case has; the last two are 2 where they are cut to 8 or to 32 bits. */
@@ -68,21 +81,21 @@ static void layout(void)
            offsetof(struct givendra_plan_answer, place), offsetof(struct givendra_plan_answer, refusal),
            offsetof(struct givendra_plan_answer, cycle), offsetof(struct givendra_plan_answer, tried),
            offsetof(struct givendra_plan_answer, size));
-    printf("junction_answer: size %zu place %zu refusal %zu design_day %zu streams %zu zones %zu counts %zu\n",
+    printf("junction_answer: size %zu place %zu refusal %zu design_day %zu period %zu streams %zu zones %zu counts %zu\n",
            sizeof(struct givendra_junction_answer), offsetof(struct givendra_junction_answer, place),
            offsetof(struct givendra_junction_answer, refusal), offsetof(struct givendra_junction_answer, design_day),
-           offsetof(struct givendra_junction_answer, streams), offsetof(struct givendra_junction_answer, zones),
-           offsetof(struct givendra_junction_answer, counts));
+           offsetof(struct givendra_junction_answer, period), offsetof(struct givendra_junction_answer, streams),
+           offsetof(struct givendra_junction_answer, zones), offsetof(struct givendra_junction_answer, counts));
     printf("figure: size %zu place %zu refusal %zu value %zu\n", sizeof(struct givendra_figure), offsetof(struct givendra_figure, place),
            offsetof(struct givendra_figure, refusal), offsetof(struct givendra_figure, value));
     struct after_a_byte {
         uint8_t byte;
         struct givendra_count_record record;
     };
-    printf("count_record: size %zu alignment %zu stream %zu count_day %zu file_day %zu flow %zu\n", sizeof(struct givendra_count_record),
+    printf("count_record: size %zu alignment %zu stream %zu count_day %zu file_day %zu flow %zu period %zu\n", sizeof(struct givendra_count_record),
            offsetof(struct after_a_byte, record), offsetof(struct givendra_count_record, stream),
            offsetof(struct givendra_count_record, count_day), offsetof(struct givendra_count_record, file_day),
-           offsetof(struct givendra_count_record, flow));
+           offsetof(struct givendra_count_record, flow), offsetof(struct givendra_count_record, period));
 }
 
 /* ---- what is lent to be read */
@@ -105,6 +118,9 @@ static void lend_files(void)
     lend(&with_tram);
     lend(&full);
     lend(&busy);
+    lend(&first);
+    lend(&second);
+    lend(&heavy);
     for (size_t i = 0; i < LENGTH(refused); i++)
         lend(&refused[i]);
 }
@@ -114,8 +130,8 @@ static void lend_files(void)
 static void read_junction(struct file j)
 {
     struct givendra_junction_answer a = givendra_read_junction(j.bytes, j.length);
-    printf("read_junction, %s: refusal %u place %zu design_day %u streams %zu zones %zu counts %zu\n", j.name, a.refusal, a.place,
-           a.design_day, a.streams, a.zones, a.counts);
+    printf("read_junction, %s: refusal %u place %zu design_day %u period %u streams %zu zones %zu counts %zu\n", j.name, a.refusal, a.place,
+           a.design_day, a.period, a.streams, a.zones, a.counts);
 }
 
 static void figure(struct givendra_figure a)
@@ -147,12 +163,18 @@ static void flow_ratio(struct file j, size_t stream)
     figure(givendra_flow_ratio(j.bytes, j.length, stream));
 }
 
-static void newest_count(const char *what, const struct givendra_count_record *list, size_t length, size_t stream, uint16_t design_day)
+static void newest_in_period(const char *what, const struct givendra_count_record *list, size_t length, size_t stream, uint16_t design_day,
+                             size_t period)
 {
     void *lent = alone(list, length * sizeof *list);
-    printf("newest_count, %s, stream %zu: ", what, stream);
-    figure(givendra_newest_count((const struct givendra_count_record *)lent, length, stream, design_day));
+    printf("newest_count, %s, stream %zu in period %zu: ", what, stream, period);
+    figure(givendra_newest_count((const struct givendra_count_record *)lent, length, stream, design_day, period));
     free(lent);
+}
+
+static void newest_count(const char *what, const struct givendra_count_record *list, size_t length, size_t stream, uint16_t design_day)
+{
+    newest_in_period(what, list, length, stream, design_day, 1);
 }
 
 /* Lends the first bytes of a memory that is longer than the plan and filled with a5, and prints all of it. */
@@ -211,6 +233,8 @@ static void reading(void)
 {
     read_junction(whole);
     read_junction(with_tram);
+    read_junction(first);
+    read_junction(second);
     for (size_t i = 0; i < LENGTH(refused); i++)
         read_junction(refused[i]);
 }
@@ -254,8 +278,8 @@ static void needs(void)
         need(refused[i], 0, 0);
 }
 
-/* Table 1 at 350 cm, 1,925 E/h; 10,000 x 600/1,925 is 3,116.9, so y is 3,117, and with 1,925 E/h 10,000. 7 for a stream that is no car or is
- * not there, after the junction's questions. */
+/* Table 1 at 350 cm, 1,925 E/h; 10,000 x 600/1,925 is 3,116.9, so y is 3,117, with 900 E/h 4,676, and with 1,925 E/h 10,000. 7 for a stream that
+ * is no car or is not there, after the junction's questions. */
 static void flows(void)
 {
     saturation_flow(whole, 1);
@@ -267,6 +291,8 @@ static void flows(void)
         saturation_flow(refused[i], 0);
     flow_ratio(whole, 1);
     flow_ratio(full, 1);
+    flow_ratio(first, 1);
+    flow_ratio(second, 1);
     flow_ratio(whole, 2);
     flow_ratio(with_tram, 3);
     for (size_t i = 0; i < LENGTH(absent); i++)
@@ -275,11 +301,11 @@ static void flows(void)
         flow_ratio(refused[i], 0);
 }
 
-/* Records are stream, count day, file day, flow. Each list is asked for on the design day 9000. */
+/* Records are stream, count day, file day, flow, period. Unless said, a list is asked for on the design day 9000 and in period 1. */
 static void counts(void)
 {
     /* the latest day up to the design day, wherever it stands; the later record is passed over */
-    static const struct givendra_count_record days[] = {{1, 8999, 0, 500}, {1, 9000, 0, 600}, {1, 8000, 0, 900}, {1, 9001, 0, 700}};
+    static const struct givendra_count_record days[] = {{1, 8999, 0, 500, 1}, {1, 9000, 0, 600, 1}, {1, 8000, 0, 900, 1}, {1, 9001, 0, 700, 1}};
     newest_count("days", days, 4, 1, 9000);
     newest_count("the first of the days", days, 1, 1, 9000);
     newest_count("the last three of the days", days + 1, 3, 1, 9000);
@@ -287,21 +313,21 @@ static void counts(void)
     newest_count("the design day 8998", days, 4, 1, 8998);
     newest_count("the design day 7999", days, 4, 1, 7999);
     /* of equal days the larger flow, first or last */
-    static const struct givendra_count_record equals[] = {{1, 9000, 0, 600}, {1, 9000, 0, 610}, {1, 9000, 0, 605}};
+    static const struct givendra_count_record equals[] = {{1, 9000, 0, 600, 1}, {1, 9000, 0, 610, 1}, {1, 9000, 0, 605, 1}};
     newest_count("equal days", equals, 3, 1, 9000);
     newest_count("the last two of the equal days", equals + 1, 2, 1, 9000);
     /* the same days and flows with file days that would choose another one, or lie after the design day */
-    static const struct givendra_count_record file_days[] = {{1, 8999, 9000, 500}, {1, 9000, 8000, 600}, {1, 8000, 65535, 900}, {1, 9001, 9000, 700}};
+    static const struct givendra_count_record file_days[] = {{1, 8999, 9000, 500, 1}, {1, 9000, 8000, 600, 1}, {1, 8000, 65535, 900, 1}, {1, 9001, 9000, 700, 1}};
     newest_count("other file days", file_days, 4, 1, 9000);
     /* other streams, and flows not from 1 to 9,999, are passed over */
-    static const struct givendra_count_record others[] = {{1, 8000, 0, 400}, {2, 9000, 0, 800}, {1, 9000, 0, 0}, {1, 9000, 0, 10000}, {1, 9000, 0, 65535}};
+    static const struct givendra_count_record others[] = {{1, 8000, 0, 400, 1}, {2, 9000, 0, 800, 1}, {1, 9000, 0, 0, 1}, {1, 9000, 0, 10000, 1}, {1, 9000, 0, 65535, 1}};
     newest_count("others", others, 5, 1, 9000);
     newest_count("others", others, 5, 2, 9000);
-    static const struct givendra_count_record least[] = {{1, 9000, 0, 1}}, most[] = {{1, 9000, 0, 9999}};
+    static const struct givendra_count_record least[] = {{1, 9000, 0, 1, 1}}, most[] = {{1, 9000, 0, 9999, 1}};
     newest_count("the least flow", least, 1, 1, 9000);
     newest_count("the greatest flow", most, 1, 1, 9000);
     /* any stream number of a record and any day */
-    static const struct givendra_count_record any[] = {{0, 0, 0, 321}, {255, 65535, 0, 432}};
+    static const struct givendra_count_record any[] = {{0, 0, 0, 321, 1}, {255, 65535, 0, 432, 1}};
     newest_count("day 0", any, 2, 0, 0);
     newest_count("day 65,535", any, 2, 255, 65535);
     /* none usable: an empty list, other streams, flows out of range; the last two streams are 1 where they are cut to 8 or to 32 bits */
@@ -311,11 +337,18 @@ static void counts(void)
     newest_count("flows out of range", others + 2, 3, 1, 9000);
     newest_count("days", days, 4, 257, 9000);
     newest_count("days", days, 4, 4294967297, 9000);
+    /* of each period its own; a period out of range matches no record, though one has its number; the last three are 1 where they are cut to
+     * 8, 16 or 32 bits */
+    static const struct givendra_count_record periods[] = {{1, 9000, 0, 600, 1}, {1, 9000, 0, 700, 2}, {1, 8999, 0, 9999, 5}, {1, 9000, 0, 800, 0}};
+    static const size_t asked[] = {1, 2, 3, 4, 0, 5, 257, 65537, 4294967297};
+    for (size_t i = 0; i < LENGTH(asked); i++)
+        newest_in_period("periods", periods, 4, 1, 9000, asked[i]);
 }
 
 /* The whole case in a long buffer, whose later bytes stay, in one that just holds the plan, and in one a byte short, which stays. One length is
  * tried, since T0 is 50: 50 x 50 x 6,883 is at least 1,200,000 x 14, and 49 x 49 x 6,883 is not. With 1,925 E/h Y is 10,000: 21. With
- * 1,826 E/h Y is 9,486, and 180 x 180 x 514 is below 1,200,000 x 14: 22. Both come before 23, and the junction's questions before all. */
+ * 1,826 E/h Y is 9,486, and 180 x 180 x 514 is below 1,200,000 x 14: 22. Both come before 23, and the junction's questions before all. With
+ * 900 E/h, in the second period, Y is 4,676 and T0 57: 57 x 57 x 5,324 is at least 1,200,000 x 14, and 56 x 56 x 5,324 is not. */
 static void working_out(void)
 {
     printf("plan length: 0 streams %zu, 2 streams %zu, 1 + 1 streams %zu, 16 streams %zu\n", GIVENDRA_PLAN_LENGTH(0), GIVENDRA_PLAN_LENGTH(2),
@@ -324,6 +357,8 @@ static void working_out(void)
     work_out(whole, 21);
     work_out(whole, 20);
     work_out(whole, 0);
+    work_out(first, 24);
+    work_out(second, 24);
     work_out(full, 24);
     work_out(full, 20);
     work_out(busy, 24);
@@ -336,7 +371,8 @@ static void working_out(void)
 
 /* The plan, then one change at a time. Pedestrians a second earlier, before the last car has cleared the zone, and a second later, so that
  * they have not cleared it for the next cycle's first car. 5 s for the pedestrians, who need 6. 14 s for the car, for which 600 x 50 is
- * above 1,925 x 15, and 15 s, for which it is not above 1,925 x 16. Questions 11 to 13. The junction's questions come before all. */
+ * above 1,925 x 15, and 15 s, for which it is not above 1,925 x 16. By the flow of the second period, 1,400 x 50 is above 1,925 x 36.
+ * Questions 11 to 13. The junction's questions come before all. */
 static void judging(void)
 {
     judge("the plan", whole, plan, sizeof plan);
@@ -345,6 +381,7 @@ static void judging(void)
     judge_changed("a length of 5", 20, 5);
     judge_changed("a length of 14", 12, 14);
     judge_changed("a length of 15", 12, 15);
+    judge(heavy.name, heavy, plan, sizeof plan);
     judge_changed("cycle 0", 4, 0);
     judge("six bytes of the plan", whole, plan, 6);
     judge("five bytes of the plan", whole, plan, 5);

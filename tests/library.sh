@@ -84,14 +84,14 @@ saves() {
     fails "$@" $whole.junction "$work/a.plan" "$work/b.plan"
 }
 
-# Streams 1 and 2 of the other examples are of one phase and share no zone.
+# Streams 1 and 2 of the whole case and of its evening share a zone; those of the other examples that have a plan are of one phase.
 compiled gcc -std=c99 examples/desk.c
 export PYTHONPATH="$prefix/share/givendra/python" PYTHONDONTWRITEBYTECODE=1
 whole=examples/whole_case
 for f in examples/*.junction; do
     plan=$(cat "${f%.junction}.txt")
     case $f in
-    $whole.junction) intergreen=5 ;;
+    $whole.junction | examples/evening.junction) intergreen=5 ;;
     *) intergreen=0 ;;
     esac
     case $plan in

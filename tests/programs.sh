@@ -29,6 +29,16 @@ same "the whole case" 'accepted\n' '' $judge $junction $plan
 { bytes 0 18 $plan; printf '\047'; bytes 19 2 $plan; } > "$work/early.plan"
 same "a start of 39" 'refused 17 1\n' '' $judge $junction "$work/early.plan"
 : > "$work/empty"
+# The whole case as it was before request 2026-04, and with the period added.
+{ printf '\001\000\004'; bytes 3 4 $junction; bytes 8 41 $junction; printf '\004\000\007'; bytes 52 7 $junction; } > "$work/old.junction"
+same "a file of an earlier release" 'refused 4 0\n' '' $judge "$work/old.junction" $plan
+same "a file of an earlier release with period 1" '' '' tools/add_period 1 "$work/old.junction" "$work/new.junction"
+cmp $junction "$work/new.junction" || failed=1
+for words in "1 $work/new.junction $work/newer.junction" "1 $work/old.junction $work/new.junction" "5 $work/old.junction $work/newer.junction" \
+    "1 $work/none $work/newer.junction" "1 $plan $work/newer.junction" "1 $work/empty $work/newer.junction" "1 $work/old.junction"; do
+    err=$(tools/add_period $words 2>&1)
+    [ $? = 2 ] && [ -n "$err" ] && [ ! -e "$work/newer.junction" ] || { echo "programs: add_period $words does not end with status 2 and a reason"; failed=1; }
+done
 same "an empty plan" 'refused 12 0\n' '' $judge $junction "$work/empty"
 same "an empty junction" 'refused 8 0\n' '' $judge "$work/empty" $plan
 { cat $plan; head -c 70000 /dev/zero; } > "$work/long.plan"
@@ -56,9 +66,18 @@ same "intergreens of the whole case" 'Intergreen times in s, from the stream tha
     2    4    .
 not checked, in different phases without a zone: none
 
-Streams
+Streams, with flows counted in period 1
     1  phase 1  car         needs 8 s   flow 600 E/h counted on 2024-08-22, day 9000   S 1925 E/h   y 0.3117
     2  phase 2  pedestrian  needs 6 s\n' '' sh -c 'target/bin/intergreens < examples/whole_case.junction'
+same "intergreens of the evening" 'Intergreen times in s, from the stream that clears (down) to the stream that starts (across); . same phase, - not checked
+         1    2
+    1    .    5
+    2    4    .
+not checked, in different phases without a zone: none
+
+Streams, with flows counted in period 3
+    1  phase 1  car         needs 8 s   flow 900 E/h counted on 2024-08-22, day 9000   S 1925 E/h   y 0.4676
+    2  phase 2  pedestrian  needs 6 s\n' '' target/bin/intergreens examples/evening.junction
 same "intergreens of the island" 'Intergreen times in s, from the stream that clears (down) to the stream that starts (across); . same phase, - not checked
          1    2    3    4    5
     1    .    .    .    4    5
@@ -68,12 +87,16 @@ same "intergreens of the island" 'Intergreen times in s, from the stream that cl
     5    8    2    -    .    .
 not checked, in different phases without a zone: 3-5
 
-Streams
+Streams, with flows counted in period 1
     1  phase 1  car         needs 8 s   flow 1780 E/h counted on 2024-08-02, day 8980   S 5351 E/h   y 0.3327
     2  phase 1  car         needs 8 s   flow 1240 E/h counted on 2024-08-02, day 8980   S 3675 E/h   y 0.3375
     3  phase 1  pedestrian  needs 10 s
     4  phase 2  car         needs 8 s   flow 210 E/h counted on 2024-08-03, day 8981   S 1305 E/h   y 0.1610
     5  phase 2  island      needs 18 s\n' '' target/bin/intergreens examples/island.junction
+
+# The evening's file with the morning's period has the whole case's plan.
+{ bytes 0 7 examples/evening.junction; printf '\001'; bytes 8 63 examples/evening.junction; } > "$work/morning.junction"
+same "the evening's file in period 1" "$(cat examples/whole_case.txt)\n" '' target/bin/plan "$work/morning.junction"
 
 # The plan that `plan` keeps is the one that `judge` accepts. A file that is there is never written over, and a refusal makes none.
 same "plan keeps its file" "$(cat examples/whole_case.txt)\n" '' target/bin/plan $junction "$work/kept.plan"

@@ -47,7 +47,7 @@ def file_of(words):
 
 def told_reading(words, _):
     held = outcome(givendra.read_junction, file_of(words))
-    return held if isinstance(held, str) else "taken %d %d %d" % held[1:]
+    return held if isinstance(held, str) else "taken %d %d %d" % held[2:]
 
 
 def told_judgement(words, junction):
@@ -154,10 +154,10 @@ def own():
     """What a caller may hand in, what it may not, and what a refusal has."""
     junction = (root / "examples" / "whole_case.junction").read_bytes()
     same("the release", givendra.release(), givendra.RELEASE)
-    same("what the whole case holds", givendra.read_junction(junction), (9000, 2, 1, 1))
+    same("what the whole case holds", givendra.read_junction(junction), (9000, 1, 2, 1, 1))
     for kind in (bytearray, memoryview):
         same("a junction file as a " + kind.__name__, givendra.intergreen(kind(junction), 1, 2), 5)
-    for data in ("text", 58, None):
+    for data in ("text", 60, None):
         same("%r as a junction file" % data, outcome(givendra.read_junction, data), "TypeError")
     for stream, expected in ((-1, "OverflowError"), (1 << 64, "OverflowError"), (1.0, "TypeError"), ((1 << 64) - 1, "refused 7 18446744073709551615")):
         same("stream %r" % stream, outcome(givendra.need, junction, stream, 50), expected)
@@ -166,15 +166,21 @@ def own():
     same("a buffer that cannot be written", outcome(givendra.work_out_into, junction, bytes(21)), "TypeError")
     same("a green of no stream", outcome(givendra.green, b"", -1), "OverflowError")
 
-    days = [givendra.Count(1, 8999, 0, 500), (1, 9000, 0, 600), (1, 8000, 0, 900), (1, 9001, 0, 700)]
-    same("the newest count", givendra.newest_count(days, 1, 9000), 600)
-    same("the newest count of what is told once", givendra.newest_count(iter(days), 1, 8998), 900)
-    same("no count", outcome(givendra.newest_count, [], 1, 9000), "refused 9 1")
-    for count in ((256, 9000, 0, 600), (1, 65536, 0, 600), (1, 9000, -1, 600), (1, 9000, 0, 65536 + 600)):
-        same("the count %r" % (count,), outcome(givendra.newest_count, [count], 1, 9000), "OverflowError")
-    for count in ((1, 9000, 600), (1, 9000, 0, "600")):
-        same("the count %r" % (count,), outcome(givendra.newest_count, [count], 1, 9000), "TypeError")
-    same("a design day of 65,536", outcome(givendra.newest_count, days, 1, 65536), "OverflowError")
+    days = [givendra.Count(1, 8999, 0, 500, 1), (1, 9000, 0, 600, 1), (1, 8000, 0, 900, 1), (1, 9001, 0, 700, 1), (1, 9000, 0, 800, 2),
+            (1, 9000, 0, 900, 5), (1, 9000, 0, 900, 0)]
+    same("the newest count", givendra.newest_count(days, 1, 9000, 1), 600)
+    same("the newest count of another period", givendra.newest_count(days, 1, 9000, 2), 800)
+    same("the newest count of what is told once", givendra.newest_count(iter(days), 1, 8998, 1), 900)
+    same("no count", outcome(givendra.newest_count, [], 1, 9000, 1), "refused 9 1")
+    for period in (0, 3, 5, 257, (1 << 64) - 1):
+        same("period %d" % period, outcome(givendra.newest_count, days, 1, 9000, period), "refused 9 1")
+    for count in ((256, 9000, 0, 600, 1), (1, 65536, 0, 600, 1), (1, 9000, -1, 600, 1), (1, 9000, 0, 65536 + 600, 1), (1, 9000, 0, 600, 257)):
+        same("the count %r" % (count,), outcome(givendra.newest_count, [count], 1, 9000, 1), "OverflowError")
+    for count in ((1, 9000, 0, 600), (1, 9000, 0, "600", 1)):
+        same("the count %r" % (count,), outcome(givendra.newest_count, [count], 1, 9000, 1), "TypeError")
+    same("a design day of 65,536", outcome(givendra.newest_count, days, 1, 65536, 1), "OverflowError")
+    for period in (-1, 1 << 64):
+        same("period %d" % period, outcome(givendra.newest_count, days, 1, 9000, period), "OverflowError")
 
     try:
         givendra.judge(junction, b"\x11\x00\x02\x00\x00")

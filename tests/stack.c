@@ -9,7 +9,7 @@
 
 static uint8_t junction[16385], plan[GIVENDRA_PLAN_LENGTH(16)], stack[4 * GIVENDRA_STACK];
 static size_t length, plan_length;
-static const struct givendra_count_record list[] = {{1, 9000, 0, 600}, {2, 9000, 0, 600}};
+static const struct givendra_count_record list[] = {{1, 9000, 0, 600, 1}, {2, 9000, 0, 600, 1}};
 
 static void judge(void) { givendra_judge(junction, length, plan, plan_length); }
 static void work_out(void) { plan_length = givendra_work_out(junction, length, plan, sizeof plan).size; }
@@ -18,7 +18,7 @@ static void intergreen(void) { givendra_intergreen(junction, length, 1, 2); }
 static void need(void) { givendra_need(junction, length, 1, 100); }
 static void saturation_flow(void) { givendra_saturation_flow(junction, length, 1); }
 static void flow_ratio(void) { givendra_flow_ratio(junction, length, 1); }
-static void newest_count(void) { givendra_newest_count(list, 2, 1, 9000); }
+static void newest_count(void) { givendra_newest_count(list, 2, 1, 9000, 1); }
 static void release(void) { givendra_release(); }
 
 /* The plan is worked out before it is judged. */

@@ -12,7 +12,7 @@ fn unless_refused<T>(number: u8, place: usize, answer: T) -> Result<T, Refusal> 
 impl Program for Library {
     fn read(junction: &[u8]) -> Result<Held, Refusal> {
         let a = unsafe { givendra_read_junction(junction.as_ptr(), junction.len()) };
-        let held = Held { design_day: a.design_day, streams: a.streams, zones: a.zones, counts: a.counts };
+        let held = Held { design_day: a.design_day, period: a.period, streams: a.streams, zones: a.zones, counts: a.counts };
         unless_refused(a.refusal, a.place, held)
     }
 

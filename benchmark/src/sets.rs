@@ -152,7 +152,7 @@ fn common_junction(r: &mut Random) -> Junction {
     make_junction(r, phases, streams, zones, 2)
 }
 
-/// The generator gives each car as many counts, so only some numbers of cars come with 128 counts.
+/// Not every junction that the generator draws has 128 counts.
 fn full_junction(r: &mut Random) -> Junction {
     loop {
         let phases = r.from_to(2, 4);
@@ -216,10 +216,11 @@ fn long_search(small_flow: u16) -> Junction {
     let walk = Kind::Pedestrian(Pedestrian { speed: 12, crossing: 70, people: 200, reach_counted: false, disturbed: false });
     let bicycle = Kind::Cyclist(Cyclist { reach_counted: false });
     let streams = [(1, car), (1, car), (1, walk), (2, car), (2, car), (2, walk), (2, bicycle), (1, bicycle)];
-    let count = |stream, flow| Count { stream, count_day: 9000, file_day: 9000, flow };
+    let count = |stream, flow| Count { stream, count_day: 9000, file_day: 9000, flow, period: 1 };
     Junction {
         number: 7,
         design_day: 9000,
+        period: 1,
         streams: streams.map(|(phase, kind)| Stream { phase, kind }).to_vec(),
         zones: vec![],
         counts: vec![count(1, small_flow), count(2, small_flow), count(4, 900), count(5, 900)],

@@ -1,6 +1,6 @@
 //! The C library for Rust: `include/givendra.h`, which says what each function answers, declared once for the tests and the benchmark.
 
-pub const GIVENDRA_RELEASE: u32 = 1;
+pub const GIVENDRA_RELEASE: u32 = 2;
 
 #[repr(C)]
 #[derive(Clone, Copy, PartialEq, Eq, Debug)]
@@ -25,6 +25,7 @@ pub struct JunctionAnswer {
     pub place: usize,
     pub refusal: u8,
     pub design_day: u16,
+    pub period: u8,
     pub streams: usize,
     pub zones: usize,
     pub counts: usize,
@@ -45,6 +46,7 @@ pub struct CountRecord {
     pub count_day: u16,
     pub file_day: u16,
     pub flow: u16,
+    pub period: u8,
 }
 
 // Not bundled: only a program that calls the library needs it, so tests that do not are linked without it.
@@ -58,5 +60,5 @@ extern "C" {
     pub fn givendra_need(junction: *const u8, junction_length: usize, stream: usize, cycle: u16) -> Figure;
     pub fn givendra_saturation_flow(junction: *const u8, junction_length: usize, stream: usize) -> Figure;
     pub fn givendra_flow_ratio(junction: *const u8, junction_length: usize, stream: usize) -> Figure;
-    pub fn givendra_newest_count(list: *const CountRecord, list_length: usize, stream: usize, design_day: u16) -> Figure;
+    pub fn givendra_newest_count(list: *const CountRecord, list_length: usize, stream: usize, design_day: u16, period: usize) -> Figure;
 }

@@ -1,6 +1,6 @@
 //! Random files that are refused, or nearly: damaged, spliced, with numbers at and past their limits.
 
-use crate::generate::{limit_junction, random_island, rich_junction};
+use crate::generate::{limit_junction, other_period, random_island, rich_junction};
 use crate::junction::*;
 use crate::random::Random;
 use std::ops::Range;
@@ -66,9 +66,7 @@ pub fn faulty(r: &mut Random, file: &[u8], other: &[u8]) -> Vec<u8> {
             let mut body = file[one.clone()].iter().skip(3).copied().collect::<Vec<u8>>();
             let size = (body.len() as i64 + r.pick(&[-9, -6, -3, -2, -1, -1, 1, 1, 2, 3, 6, 250])).max(0);
             body.resize(size as usize, r.from_to(0, 255) as u8);
-            let mut field = vec![];
-            put_field(&mut field, file[one.start], &body);
-            out.splice(one, field);
+            out = with_body(file, one, &body);
         }
         6 => out[one.start] = r.pick(&[0, 1, 2, 3, 4, 6, 0x10, 0x11, 0x12, 0x13, 0x81, 255]),
         7 => {
@@ -94,6 +92,14 @@ pub fn faulty(r: &mut Random, file: &[u8], other: &[u8]) -> Vec<u8> {
     out
 }
 
+/// The file with this body in the place of the field's.
+fn with_body(file: &[u8], field: Range<usize>, body: &[u8]) -> Vec<u8> {
+    let (mut out, mut other) = (file.to_vec(), vec![]);
+    put_field(&mut other, file[field.start], body);
+    out.splice(field, other);
+    out
+}
+
 /// The length of the field at this place changed, its body as it was.
 fn wrong_length(r: &mut Random, file: &mut [u8], at: usize) {
     if file.len() - at >= 3 {
@@ -110,7 +116,7 @@ type Number = (usize, usize, u16, u16);
 /// The numbers of a field.
 fn numbers(tag: u8, body: &[u8]) -> &'static [Number] {
     match tag {
-        1 => &[(0, 2, 0, 65_535), (2, 2, 0, 65_535)],
+        1 => &[(0, 2, 0, 65_535), (2, 2, 0, 65_535), (4, 1, 1, 4)],
         2 => body.first().map_or(&[], |&kind| stream_numbers(kind)),
         3 => &[
             (0, 1, 1, 16),
@@ -120,7 +126,7 @@ fn numbers(tag: u8, body: &[u8]) -> &'static [Number] {
             (6, 2, 0, 999),
             (8, 2, 0, 999),
         ],
-        4 => &[(0, 1, 1, 16), (1, 2, 0, 65_535), (3, 2, 0, 65_535), (5, 2, 1, 9_999)],
+        4 => &[(0, 1, 1, 16), (1, 2, 0, 65_535), (3, 2, 0, 65_535), (5, 2, 1, 9_999), (7, 1, 1, 4)],
         0x11 => &[(0, 2, 1, 180)],
         0x12 => &[(0, 1, 1, 16), (1, 2, 0, 179), (3, 2, 1, 180)],
         _ => &[],
@@ -206,12 +212,12 @@ pub fn at_the_limits(r: &mut Random, file: &[u8]) -> Vec<u8> {
     let steps = r.pick(&[1, 2, 5, 20]);
     for _ in 0..steps {
         let field = list[r.from_to(0, list.len() as i64 - 1) as usize].clone();
-        // kinds, phases and the numbers of streams are mostly left as they are, so that the file is often taken
+        // kinds, phases, the numbers of streams and periods are mostly left as they are, so that the file is often taken
         let before = out[field.clone()].to_vec();
         set_number(r, &mut out, field.clone(), false);
-        let structure = match before[0] { 2 => 3..5, 3 => 3..5, 4 | 0x12 => 3..4, _ => 0..0 };
+        let structure: &[usize] = match before[0] { 1 => &[7], 2 | 3 => &[3, 4], 4 => &[3, 10], 0x12 => &[3], _ => &[] };
         if !r.one_in(20) {
-            out[field.start..][structure.clone()].copy_from_slice(&before[structure]);
+            structure.iter().for_each(|&at| out[field.start + at] = before[at]);
         }
     }
     if r.one_in(4) {
@@ -241,12 +247,14 @@ pub fn aimed_at(r: &mut Random, number: u8) -> Vec<u8> {
             let body = island_of_another_length(r);
             with_stream(r, &file, &body).0
         }
+        4 if r.one_in(3) => heading_or_count_of_another_length(r, &file).0,
         5 if r.one_in(4) => {
             let body = if r.one_in(3) { stream_of_unknown_kind(r) } else { island_out_of_range(r) };
             with_stream(r, &file, &body).0
         }
+        5 if r.one_in(3) => period_out_of_range(r, &file).0,
         2..=5 => faulty(r, &file, &other),
-        8 if r.one_in(20) => file[..r.pick(&[0, 7])].to_vec(),
+        8 if r.one_in(20) => file[..r.pick(&[0, 8])].to_vec(),
         _ => file,
     }
 }
@@ -292,7 +300,7 @@ fn one_too_many(r: &mut Random, j: &mut Junction) -> Vec<u8> {
                 j.streams.push(again);
                 if again.is_car() {
                     let count_day = j.design_day;
-                    j.counts.push(Count { stream: j.streams.len() as u8, count_day, file_day: 0, flow: 100 });
+                    j.counts.push(Count { stream: j.streams.len() as u8, count_day, file_day: 0, flow: 100, period: j.period });
                 }
             }
         }
@@ -312,6 +320,10 @@ fn one_too_many(r: &mut Random, j: &mut Junction) -> Vec<u8> {
             if r.one_in(4) {
                 let last = j.counts.last_mut().expect("a count");
                 last.stream = r.pick(&[0, 17, 255]);
+            }
+            if r.one_in(4) {
+                let last = j.counts.last_mut().expect("a count");
+                last.period = no_period(r);
             }
         }
     }
@@ -336,6 +348,9 @@ fn strange_streams(r: &mut Random, j: &mut Junction) {
     } else {
         let at = r.from_to(0, j.counts.len() as i64 - 1) as usize;
         j.counts[at].stream = if r.one_in(2) { number } else { r.from_to(1, n) as u8 };
+        if r.one_in(8) {
+            j.counts[at].period = no_period(r);
+        }
     }
 }
 
@@ -368,18 +383,72 @@ fn not_a_whole_junction(r: &mut Random, j: &mut Junction) {
     });
 }
 
-/// A car whose counts are all after the design day, or that has none.
+/// A car whose counts are all after the design day or of other periods, or that has none; or another period planned.
 fn no_usable_count(r: &mut Random, j: &mut Junction) {
     let cars: Vec<usize> = (1..=j.streams.len()).filter(|&s| j.stream(s).is_car()).collect();
     for _ in 0..r.pick(&[1, 1, 2]) {
         let car = r.pick(&cars) as u8;
-        if r.one_in(2) && j.design_day < 65_535 {
-            let later = j.design_day + 1;
-            j.counts.iter_mut().filter(|c| c.stream == car).for_each(|c| c.count_day = c.count_day.max(later));
-        } else {
-            j.counts.retain(|c| c.stream != car);
+        match r.from_to(1, 6) {
+            1 if j.design_day < 65_535 => {
+                let later = j.design_day + 1;
+                j.counts.iter_mut().filter(|c| c.stream == car).for_each(|c| c.count_day = c.count_day.max(later));
+            }
+            1 | 2 => j.counts.retain(|c| c.stream != car),
+            3 => j.period = other_period(r, j.period),
+            _ => {
+                let (planned, other) = (j.period, other_period(r, j.period));
+                let own = |c: &&mut Count| c.stream == car && c.period == planned;
+                j.counts.iter_mut().filter(own).for_each(|c| c.period = other);
+            }
         }
     }
+}
+
+// ---- headings and counts that are refused for their length or their period
+
+/// A number that is no period.
+pub fn no_period(r: &mut Random) -> u8 {
+    if r.one_in(4) { r.from_to(5, 255) as u8 } else { r.pick(&[0, 5, 255]) }
+}
+
+/// The heading, or one of the counts.
+fn heading_or_count(r: &mut Random, file: &[u8]) -> Range<usize> {
+    let list = fields(file);
+    let counts: Vec<Range<usize>> = list.iter().filter(|f| file[f.start] == 4).cloned().collect();
+    if r.one_in(2) { list[0].clone() } else { counts[r.from_to(0, counts.len() as i64 - 1) as usize].clone() }
+}
+
+/// A heading of 4 bytes or a count of 7, as they were before request 2026-04, or one with another wrong length, now and then
+/// with a number out of range: question 4. The file and the place of that field.
+pub fn heading_or_count_of_another_length(r: &mut Random, file: &[u8]) -> (Vec<u8>, usize) {
+    let one = heading_or_count(r, file);
+    let mut body = file[one.start + 3..one.end].to_vec();
+    let right = body.len();
+    if r.one_in(4) {
+        body[right - 1] = no_period(r);
+    }
+    let other = r.pick(&[0, 1, right - 3, right - 2, right + 2, right + 256]);
+    let length = r.pick(&[right - 1, right - 1, right - 1, right + 1, right + 1, other]);
+    body.resize(length, r.pick(&[0, 1, 2, 5, 255]));
+    (with_body(file, one.clone(), &body), one.start)
+}
+
+/// A heading or a count of no period; in a count the flow is sometimes out of range too, and the stream sometimes missing:
+/// question 5. The file and the place of that field.
+pub fn period_out_of_range(r: &mut Random, file: &[u8]) -> (Vec<u8>, usize) {
+    let one = heading_or_count(r, file);
+    let mut body = file[one.start + 3..one.end].to_vec();
+    let right = body.len();
+    body[right - 1] = no_period(r);
+    if file[one.start] == 4 {
+        if r.one_in(3) {
+            body[5..7].copy_from_slice(&r.pick(&[0, 10_000, 65_535u16]).to_be_bytes());
+        }
+        if r.one_in(3) {
+            body[0] = r.pick(&[0, 17, 255]);
+        }
+    }
+    (with_body(file, one.clone(), &body), one.start)
 }
 
 // ---- streams that are refused for their kind, or for what a crossing with an island has of its own
@@ -424,9 +493,5 @@ pub fn island_out_of_range(r: &mut Random) -> Vec<u8> {
 pub fn with_stream(r: &mut Random, file: &[u8], body: &[u8]) -> (Vec<u8>, usize) {
     let streams: Vec<Range<usize>> = fields(file).into_iter().filter(|f| file[f.start] == 2).collect();
     let one = streams[r.from_to(0, streams.len() as i64 - 1) as usize].clone();
-    let (mut out, place) = (file.to_vec(), one.start);
-    let mut field = vec![];
-    put_field(&mut field, 2, body);
-    out.splice(one, field);
-    (out, place)
+    (with_body(file, one.clone(), body), one.start)
 }

@@ -30,7 +30,7 @@ pub fn limit_junction(r: &mut Random) -> Junction {
     make_junction(r, phases, streams, zones, counts)
 }
 
-/// A junction of so many phases, streams and zones, with at most so many counts for each car.
+/// A junction of so many phases, streams and zones, with at most so many counts for each car, and mostly some of other periods.
 pub fn make_junction(r: &mut Random, phases: i64, streams: i64, zones: i64, counts_for_each: i64) -> Junction {
     let design_day = r.pick(&[0, 1, 255, 256, 9000, 9000, 65534, 65535]);
     let roots = r.one_in(3); // stop trams against standing cars
@@ -48,7 +48,8 @@ pub fn make_junction(r: &mut Random, phases: i64, streams: i64, zones: i64, coun
         list.swap(i, other);
     }
 
-    let mut junction = Junction { number: r.from_to(0, 65535) as u16, design_day, streams: list, zones: vec![], counts: vec![] };
+    let (number, period) = (r.from_to(0, 65535) as u16, r.from_to(1, 4) as u8);
+    let mut junction = Junction { number, design_day, period, streams: list, zones: vec![], counts: vec![] };
     while (junction.zones.len() as i64) < zones {
         let a = r.from_to(1, streams - 1) as usize;
         let b = r.from_to(a as i64 + 1, streams) as usize;
@@ -69,10 +70,13 @@ pub fn make_junction(r: &mut Random, phases: i64, streams: i64, zones: i64, coun
     let cars: Vec<usize> = (1..=streams as usize).filter(|&s| junction.stream(s).is_car()).collect();
     let each = counts_for_each.min(COUNT_LIMIT as i64 / cars.len() as i64);
     for &s in &cars {
-        let Kind::Car(car) = junction.stream(s).kind else { unreachable!() };
-        let fair = saturation(&car) * load / 100 / phases;
+        let fair = fair_flow(&junction, s, load);
         let usable = r.from_to(0, each - 1);
         for k in 0..each {
+            if k != usable && r.one_in(3) {
+                junction.counts.push(of_another_period(r, s, design_day, period, fair));
+                continue;
+            }
             let back = r.pick(&[0, 0, 1, 2, 300]);
             let count_day = if k == usable || r.one_in(2) {
                 design_day.saturating_sub(back)
@@ -80,7 +84,19 @@ pub fn make_junction(r: &mut Random, phases: i64, streams: i64, zones: i64, coun
                 design_day.saturating_add(r.pick(&[0, 1, 2, 300]))
             };
             let flow = if r.one_in(30) { r.from_to(1, 9_999) } else { r.from_to(fair / 2 + 1, fair + 1).min(9_999) };
-            junction.counts.push(Count { stream: s as u8, count_day, file_day: r.from_to(0, 65535) as u16, flow: flow as u16 });
+            let (file_day, flow) = (r.from_to(0, 65535) as u16, flow as u16);
+            junction.counts.push(Count { stream: s as u8, count_day, file_day, flow, period });
+        }
+    }
+    // counts of other periods as well, as far as there is room
+    if !r.one_in(5) {
+        for &s in &cars {
+            let fair = fair_flow(&junction, s, load);
+            for _ in 0..r.pick(&[0, 1, 1, 2]) {
+                if junction.counts.len() < COUNT_LIMIT {
+                    junction.counts.push(of_another_period(r, s, design_day, period, fair));
+                }
+            }
         }
     }
     for i in (1..junction.counts.len()).rev() {
@@ -89,6 +105,75 @@ pub fn make_junction(r: &mut Random, phases: i64, streams: i64, zones: i64, coun
     }
     junction
 }
+
+/// What a car can carry where each phase has its share of the cycle, and so much of the junction is used, in percent.
+fn fair_flow(junction: &Junction, stream: usize, load: i64) -> i64 {
+    let Kind::Car(car) = junction.stream(stream).kind else { panic!("no car: {stream}") };
+    saturation(&car) * load / 100 / junction.phases() as i64
+}
+
+// ---- periods
+
+/// Any period but this one.
+pub fn other_period(r: &mut Random, period: u8) -> u8 {
+    (period - 1 + r.from_to(1, 3) as u8) % 4 + 1
+}
+
+/// A count of another period than the one planned: mostly on the design day, so that it is often newer than the car's own
+/// count, and mostly larger.
+fn of_another_period(r: &mut Random, stream: usize, design_day: u16, planned: u8, fair: i64) -> Count {
+    let count_day = match r.from_to(1, 6) {
+        1..=4 => design_day,
+        5 => design_day.saturating_sub(r.pick(&[1, 2, 300])),
+        _ => design_day.saturating_add(r.pick(&[1, 300])),
+    };
+    let flow = match r.from_to(1, 6) {
+        1..=3 => r.from_to(fair + 2, 2 * fair + 2).min(9_999),
+        4 => r.from_to(1, 9_999),
+        _ => r.from_to(1, fair / 2 + 1),
+    };
+    let (file_day, period) = (r.from_to(0, 65535) as u16, other_period(r, planned));
+    Count { stream: stream as u8, count_day, file_day, flow: flow as u16, period }
+}
+
+/// Counts of other periods than the one planned with other days, other flows and another of the other periods.
+pub fn others_changed(r: &mut Random, junction: &Junction) -> Junction {
+    let mut other = junction.clone();
+    for c in other.counts.iter_mut().filter(|c| c.period != junction.period) {
+        let flow = r.from_to(1, 9_999);
+        *c = of_another_period(r, c.stream as usize, junction.design_day, junction.period, flow / 2);
+    }
+    other
+}
+
+/// Up to five counts more of other periods than the one planned, anywhere among the counts, as far as there is room.
+pub fn others_added(r: &mut Random, junction: &Junction) -> Junction {
+    let mut other = junction.clone();
+    let cars: Vec<usize> = (1..=junction.streams.len()).filter(|&s| junction.stream(s).is_car()).collect();
+    for _ in 0..r.from_to(1, 5).min((COUNT_LIMIT - junction.counts.len()) as i64) {
+        let (car, flow) = (r.pick(&cars), r.from_to(1, 9_999));
+        let count = of_another_period(r, car, junction.design_day, junction.period, flow / 2);
+        other.counts.insert(r.from_to(0, other.counts.len() as i64) as usize, count);
+    }
+    other
+}
+
+/// All counts of other periods than the one planned left out, or some of them.
+pub fn others_removed(r: &mut Random, junction: &Junction) -> Junction {
+    let mut other = junction.clone();
+    let all = r.one_in(2);
+    other.counts.retain(|c| c.period == junction.period || !(all || r.one_in(2)));
+    other
+}
+
+/// The junction as it would be if no count had a period: every count is of the one planned.
+pub fn without_periods(junction: &Junction) -> Junction {
+    let mut other = junction.clone();
+    other.counts.iter_mut().for_each(|c| c.period = junction.period);
+    other
+}
+
+// ---- figures
 
 /// Figures of any kind, or, where `roots` says so, of a standing car or a stop tram.
 pub fn random_kind(r: &mut Random, roots: bool, must_be_car: bool) -> Kind {

@@ -11,6 +11,8 @@ pub const COUNT_LIMIT: usize = 128;
 pub struct Junction {
     pub number: u16,
     pub design_day: u16,
+    /// The period that is planned, 1 to 4.
+    pub period: u8,
     pub streams: Vec<Stream>,
     pub zones: Vec<Zone>,
     pub counts: Vec<Count>,
@@ -102,6 +104,8 @@ pub struct Count {
     pub count_day: u16,
     pub file_day: u16,
     pub flow: u16,
+    /// In a file 1 to 4; in a lent list any number.
+    pub period: u8,
 }
 
 impl Junction {
@@ -115,9 +119,9 @@ impl Junction {
         self.streams.iter().map(|s| s.phase).max().unwrap_or(0)
     }
 
-    /// A car's flow, if it has a usable count.
+    /// A car's flow, if it has a usable count in the period that is planned.
     pub fn flow(&self, stream: usize) -> Option<u16> {
-        choose_flow(&self.counts, stream, self.design_day)
+        choose_flow(&self.counts, stream, self.design_day, self.period as usize)
     }
 }
 
@@ -135,20 +139,26 @@ impl Stream {
     }
 }
 
-/// The count with the greatest count day not after the design day; of equals, the larger flow.
-/// The file day is not looked at.
-pub fn choose_flow(counts: &[Count], stream: usize, design_day: u16) -> Option<u16> {
+/// Is it a period?
+pub fn is_period(number: usize) -> bool {
+    (1..=4).contains(&number)
+}
+
+/// Of the counts of this period, the one with the greatest count day not after the design day; of equals, the larger flow.
+/// A period outside 1 to 4 matches no count. The file day is not looked at.
+pub fn choose_flow(counts: &[Count], stream: usize, design_day: u16, period: usize) -> Option<u16> {
     counts
         .iter()
         .filter(|c| c.stream as usize == stream && c.count_day <= design_day)
+        .filter(|c| is_period(period) && c.period as usize == period)
         .filter(|c| (1..=9_999).contains(&c.flow))
         .max_by_key(|c| (c.count_day, c.flow))
         .map(|c| c.flow)
 }
 
 /// The same choice over a lent list of count records: refusal 9, place the stream asked for.
-pub fn flow_of_list(records: &[Count], stream: usize, design_day: u16) -> Result<u16, Refusal> {
-    choose_flow(records, stream, design_day).ok_or(Refusal { number: 9, place: stream })
+pub fn flow_of_list(records: &[Count], stream: usize, design_day: u16, period: usize) -> Result<u16, Refusal> {
+    choose_flow(records, stream, design_day, period).ok_or(Refusal { number: 9, place: stream })
 }
 
 /// Two bytes, high byte first.
@@ -163,7 +173,7 @@ pub fn read_junction(file: &[u8]) -> Result<Junction, Refusal> {
         return refuse(1, 0);
     }
     let mut junction =
-        Junction { number: 0, design_day: 0, streams: vec![], zones: vec![], counts: vec![] };
+        Junction { number: 0, design_day: 0, period: 0, streams: vec![], zones: vec![], counts: vec![] };
 
     // Field by field; all questions of one field before the next.
     let mut at = 0;
@@ -189,11 +199,15 @@ pub fn read_junction(file: &[u8]) -> Result<Junction, Refusal> {
         // 4 to 7, by the sort of field.
         match tag {
             1 => {
-                if length != 4 {
+                if length != 5 {
                     return refuse(4, at);
                 }
                 junction.number = two(body, 0);
                 junction.design_day = two(body, 2);
+                junction.period = body[4];
+                if !is_period(junction.period as usize) {
+                    return refuse(5, at);
+                }
             }
             2 => {
                 let stream = read_stream(body).map_err(|number| Refusal { number, place: at })?;
@@ -229,12 +243,17 @@ pub fn read_junction(file: &[u8]) -> Result<Junction, Refusal> {
                 junction.zones.push(zone);
             }
             _ => {
-                if length != 7 {
+                if length != 8 {
                     return refuse(4, at);
                 }
-                let count =
-                    Count { stream: body[0], count_day: two(body, 1), file_day: two(body, 3), flow: two(body, 5) };
-                if !(1..=9_999).contains(&count.flow) {
+                let count = Count {
+                    stream: body[0],
+                    count_day: two(body, 1),
+                    file_day: two(body, 3),
+                    flow: two(body, 5),
+                    period: body[7],
+                };
+                if !(1..=9_999).contains(&count.flow) || !is_period(count.period as usize) {
                     return refuse(5, at);
                 }
                 if junction.counts.len() == COUNT_LIMIT {
@@ -258,7 +277,7 @@ pub fn read_junction(file: &[u8]) -> Result<Junction, Refusal> {
         return refuse(8, file.len());
     }
 
-    // 9: has each car a usable count?
+    // 9: has each car a usable count in the period?
     for s in 1..=junction.streams.len() {
         if junction.stream(s).is_car() && junction.flow(s).is_none() {
             return refuse(9, s);
@@ -414,6 +433,7 @@ impl Junction {
         let mut file = vec![];
         let mut heading = self.number.to_be_bytes().to_vec();
         heading.extend(self.design_day.to_be_bytes());
+        heading.push(self.period);
         put_field(&mut file, 1, &heading);
         for s in &self.streams {
             put_field(&mut file, 2, &s.body());
@@ -430,6 +450,7 @@ impl Junction {
             for d in [c.count_day, c.file_day, c.flow] {
                 b.extend(d.to_be_bytes());
             }
+            b.push(c.period);
             put_field(&mut file, 4, &b);
         }
         file

@@ -1,5 +1,6 @@
 //! A second implementation of document 01 ("Junction timing by the annex of RD-02-21-2"), with requests 2026-01 (crossings with
-//! an island), 2026-02 (trams past forty metres) and 2026-03 (no answer changed) of document 02, written apart from the first.
+//! an island), 2026-02 (trams past forty metres), 2026-03 (no answer changed) and 2026-04 (periods) of document 02, written
+//! apart from the first.
 //!
 //! It is written by the most direct reading and not for speed, so that it can be read beside the paper:
 //! - `exact`:    seconds as fractions and roots, compared exactly;

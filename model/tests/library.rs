@@ -7,7 +7,7 @@ use model::exact::Time;
 use model::faults::*;
 use model::generate::*;
 use model::judge::rules;
-use model::junction::{Junction, Kind};
+use model::junction::{is_period, two, Junction, Kind};
 use model::random::{seed, Random};
 use model::times::{accelerating, at_full_speed, entry, leaving, reaching, zone_distances, Entries};
 use model::work_out::{search, write, Worked};
@@ -60,14 +60,48 @@ fn check_reading(hits: &mut Hits, file: &Lent, known: &Known) {
             place,
             refusal,
             design_day: j.design_day,
+            period: j.period,
             streams: j.streams.len(),
             zones: j.zones.len(),
             counts: j.counts.len(),
         },
-        Err(_) => JunctionAnswer { place, refusal, design_day: 0, streams: 0, zones: 0, counts: 0 },
+        Err(_) => JunctionAnswer { place, refusal, design_day: 0, period: 0, streams: 0, zones: 0, counts: 0 },
     };
     same("read_junction", read_junction(file), model, file.bytes(), &[]);
     hits.hit("read_junction", refusal);
+    match &known.read {
+        Ok(j) => hits.hit(PLANNED[j.period as usize - 1], 0),
+        Err(e) if by_period(file.bytes(), *e) => hits.hit("by period", refusal),
+        Err(_) => {}
+    }
+}
+
+const PLANNED: [&str; 4] = ["planned 1", "planned 2", "planned 3", "planned 4"];
+
+/// Is it refused for an old length of a heading or a count, for a period out of range, or for a car that has counts of other periods
+/// alone?
+fn by_period(file: &[u8], refusal: Refusal) -> bool {
+    let place = refusal.place;
+    match refusal.number {
+        4 => [(1, 4), (4, 7)].contains(&(file[place], two(file, place + 1))),
+        5 => match file[place] {
+            1 => true,
+            4 => !is_period(file[place + 10] as usize),
+            _ => false,
+        },
+        9 => (1..=4).any(|period| {
+            let mut other = file.to_vec();
+            other[7] = period;
+            !matches!(model::read_junction(&other), Err(Refusal { number: 9, place }) if place <= refusal.place)
+        }),
+        _ => false,
+    }
+}
+
+/// Has a car another flow where the periods of the counts are not looked at?
+fn has_other_flow_without_periods(junction: &Junction) -> bool {
+    let without = without_periods(junction);
+    (1..=junction.streams.len()).any(|s| junction.stream(s).is_car() && junction.flow(s) != without.flow(s))
 }
 
 fn check_judging(hits: &mut Hits, junction: &Lent, plan: &Lent, known: &Known) {
@@ -79,6 +113,9 @@ fn check_judging(hits: &mut Hits, junction: &Lent, plan: &Lent, known: &Known) {
     }
     if known.read.as_ref().is_ok_and(has_floor) {
         hits.hit("judge, floor", model.refusal);
+    }
+    if known.read.as_ref().is_ok_and(has_other_flow_without_periods) {
+        hits.hit("judge, periods", model.refusal);
     }
 }
 
@@ -100,6 +137,9 @@ fn check_working_out(r: &mut Random, hits: &mut Hits, junction: &Lent, size: usi
     hits.hit("work_out", refusal);
     if known.read.as_ref().is_ok_and(has_floor) {
         hits.hit("work_out, floor", refusal);
+    }
+    if known.read.as_ref().is_ok_and(has_other_flow_without_periods) {
+        hits.hit("worked, periods", refusal);
     }
 }
 
@@ -199,8 +239,9 @@ const PAIRS: usize = 250_000;
 #[test]
 fn files() {
     let mut r = Random::new(seed("files", 11));
-    let judges = ["judge", "judge, islands", "judge, floor"];
-    let mut hits = Hits::new(&[&judges[..], &["read_junction", "work_out", "work_out, floor"]].concat());
+    let judges = ["judge", "judge, islands", "judge, floor", "judge, periods"];
+    let others = ["read_junction", "by period", "work_out", "work_out, floor", "worked, periods"];
+    let mut hits = Hits::new(&[&judges[..], &others, &PLANNED].concat());
     let mut pairs = 0;
     while pairs < PAIRS {
         if r.one_in(8) {
@@ -230,12 +271,18 @@ fn files() {
     hits.at_least(1_000, "judge", &[0, 11, 12, 13, 15, 16, 17]);
     hits.at_least(1_000, "judge, islands", &[0, 15, 16, 17]);
     hits.at_least(1_000, "judge, floor", &[0, 15, 16, 17]);
+    hits.at_least(1_000, "judge, periods", &[0, 15, 16, 17]);
+    hits.at_least(500, "by period", &[4, 5, 9]);
+    for name in PLANNED {
+        hits.at_least(1_000, name, &[0]);
+    }
     hits.at_least(1_000, "read_junction", &JUNCTION);
     hits.at_least(1_000, "read_junction", &[0]);
     hits.at_least(1_000, "work_out", &JUNCTION);
     hits.at_least(1_000, "work_out", &[0, 21, 22, 23]);
     hits.at_least(1_000, "work_out, floor", &[0]);
     hits.at_least(200, "work_out, floor", &[21, 22, 23]);
+    hits.at_least(1_000, "worked, periods", &[0, 21, 22, 23]);
 }
 
 /// A junction file that is probably taken, with plans of every sort; the number of pairs.
@@ -519,6 +566,109 @@ fn file_days() {
     hits.print();
     hits.at_least(1_000, "judge", &[0]);
     hits.at_least(1_000, "work_out", &[0]);
+}
+
+// ---- periods
+
+/// The junction with other counts of other periods than the one planned, and what was done with them.
+fn with_other_counts(r: &mut Random, junction: &Junction) -> (&'static str, Junction) {
+    match r.from_to(1, 4) {
+        1 => ("changed", others_changed(r, junction)),
+        2 => ("added", others_added(r, junction)),
+        3 => ("removed", others_removed(r, junction)),
+        _ => {
+            let fewer = others_removed(r, junction);
+            let more = others_added(r, &fewer);
+            ("all three", others_changed(r, &more))
+        }
+    }
+}
+
+/// Other counts of other periods than the one planned, more of them or fewer, and no answer of any entry changes: only the number of
+/// counts is the file's own.
+#[test]
+fn other_periods() {
+    let mut r = Random::new(seed("other_periods", 20));
+    let sorts = ["changed", "added", "removed", "all three"];
+    let entries = ["judge", "work_out", "intergreen", "need", "saturation_flow", "flow_ratio"];
+    // where the answers would differ if the periods of the counts were not looked at
+    let without = ["judge, without", "worked, without", "ratio, without"];
+    let mut hits = Hits::new(&[&sorts[..], &entries, &without].concat());
+    let mut pairs = 0;
+    while pairs < 6_000 {
+        let junction = if r.one_in(12) { limit_junction(&mut r) } else { rich_junction(&mut r) };
+        let (sort, other) = with_other_counts(&mut r, &junction);
+        if other == junction {
+            continue;
+        }
+        pairs += 1;
+        hits.hit(sort, 0);
+        let known = Known::of(&junction.to_file());
+        let (one, two) = (Lent::new(&mut r, &junction.to_file()), Lent::new(&mut r, &other.to_file()));
+        let (plain, plain_other) = (without_periods(&junction).to_file(), without_periods(&other).to_file());
+        let (plain, plain_other) = (Known::of(&plain), Known::of(&plain_other));
+        same_to_the_count("read_junction", &junction, &other, &one, &two);
+        for _ in 0..3 {
+            let plan = some_plan(&mut r, &junction, &known).to_file();
+            let plan = if r.one_in(8) { damaged(&mut r, &plan) } else { plan };
+            let plan = Lent::new(&mut r, &plan);
+            let answer = judge(&one, &plan);
+            same("judge with other counts of other periods", judge(&two, &plan), answer, two.bytes(), plan.bytes());
+            hits.hit("judge", answer.refusal);
+            if plain.judge(plan.bytes()) != plain_other.judge(plan.bytes()) {
+                hits.hit("judge, without", answer.refusal);
+            }
+        }
+        let size = 5 + 8 * junction.streams.len();
+        let size = r.pick(&[size - 1, size, size + 9, size + 9, size + 9]);
+        let (mut a, mut b) = (Lent::new(&mut r, &vec![7; size]), Lent::new(&mut r, &vec![7; size]));
+        let answer = work_out(&one, &mut a);
+        same("work_out with other counts of other periods", work_out(&two, &mut b), answer, two.bytes(), &[]);
+        same("the plan with other counts of other periods", b.bytes(), a.bytes(), two.bytes(), &[]);
+        hits.hit("work_out", answer.refusal);
+        if plain.worked != plain_other.worked {
+            hits.hit("worked, without", answer.refusal);
+        }
+        for s in stream_numbers(junction.streams.len()) {
+            let t = r.from_to(0, junction.streams.len() as i64 + 1) as usize;
+            let cycle = r.from_to(0, 181) as u16;
+            let answers = [&one, &two].map(|file| {
+                [intergreen(file, s, t), need(file, s, cycle), saturation_flow(file, s), flow_ratio(file, s)]
+            });
+            let what = format!("figures with other counts of other periods, stream {s}, to {t}, cycle {cycle}");
+            same(&what, answers[1], answers[0], two.bytes(), &[]);
+            for (name, answer) in entries[2..].iter().zip(answers[0]) {
+                hits.hit(name, answer.refusal);
+            }
+            if junction.streams.get(s.wrapping_sub(1)).is_some_and(|stream| stream.is_car())
+                && without_periods(&junction).flow(s) != without_periods(&other).flow(s)
+            {
+                hits.hit("ratio, without", answers[0][3].refusal);
+            }
+        }
+        assert!(one.as_lent() && two.as_lent(), "a figure's entry changed its file");
+    }
+    println!("{pairs} pairs of junction files");
+    hits.print();
+    for name in sorts {
+        hits.at_least(500, name, &[0]);
+    }
+    hits.at_least(1_000, "judge", &[0, 15, 16, 17]);
+    hits.at_least(1_000, "work_out", &[0]);
+    hits.at_least(100, "work_out", &[21, 22, 23]);
+    for name in ["intergreen", "need", "saturation_flow", "flow_ratio"] {
+        hits.at_least(1_000, name, &[0, 7]);
+    }
+    hits.at_least(500, "judge, without", &[0]);
+    hits.at_least(500, "worked, without", &[0]);
+    hits.at_least(1_000, "ratio, without", &[0]);
+}
+
+/// The two files are answered alike, but for the number of counts.
+fn same_to_the_count(what: &str, junction: &Junction, other: &Junction, one: &Lent, two: &Lent) {
+    let (answer, again) = (read_junction(one), read_junction(two));
+    same(what, (answer.counts, again.counts), (junction.counts.len(), other.counts.len()), one.bytes(), &[]);
+    same(what, JunctionAnswer { counts: answer.counts, ..again }, answer, two.bytes(), &[]);
 }
 
 // ---- distances

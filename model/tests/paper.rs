@@ -1,4 +1,5 @@
-//! The marked figures, the tables and the whole case of document 01, with figure 6 as request 2026-02 changes it.
+//! The marked figures, the tables and the whole case of document 01, with figure 6 as request 2026-02 changes it and the period 1
+//! of request 2026-04 in the whole case.
 mod common;
 use common::*;
 use model::annex::*;

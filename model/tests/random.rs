@@ -4,7 +4,7 @@ use model::exact::{fraction, whole, Time};
 use model::faults::*;
 use model::generate::*;
 use model::judge::rules;
-use model::junction::{read_junction, two, IslandCrossing, Junction, Kind, Stream, Tram, Zone};
+use model::junction::{is_period, read_junction, two, Count, IslandCrossing, Junction, Kind, Stream, Tram, Zone};
 use model::meaning::meaning_over;
 use model::random::{seed, Random};
 use model::times::{entry, leaving, reaching, Entries};
@@ -532,7 +532,7 @@ fn further_is_never_sooner() {
         let (l, longer) = two_clearings(&mut r);
         let reaching_b = r.from_to(0, 999) as u16;
         let zone = Zone { a: 1, b: 2, clearing_a: l, reaching_a: 0, clearing_b: 0, reaching_b };
-        let near = Junction { number: 7, design_day: 9000, streams, zones: vec![zone], counts: vec![] };
+        let near = Junction { number: 7, design_day: 9000, period: 1, streams, zones: vec![zone], counts: vec![] };
         let far = Junction { zones: vec![Zone { clearing_a: longer, ..zone }], ..near.clone() };
         assert!(leaving(&kinds[0], l).no_later_than(leaving(&kinds[0], longer)), "{kinds:?}, {l} and {longer}");
         let (sooner, later) = (entry(&near, 1, 2), entry(&far, 1, 2));
@@ -572,4 +572,201 @@ fn floors_come_often() {
         assert!(zones[by] > 2_000, "{zones:?}");
     }
     assert!(answers[&0] > 300, "{answers:?}");
+}
+
+// ---- periods
+
+/// The count that gives this car its flow.
+fn chosen(junction: &Junction, stream: usize) -> Count {
+    let of_period = |c: &&Count| c.stream as usize == stream && c.period == junction.period && c.count_day <= junction.design_day;
+    *junction.counts.iter().filter(of_period).max_by_key(|c| (c.count_day, c.flow)).expect("question 9")
+}
+
+/// Cars and their flows.
+fn flows(junction: &Junction) -> Vec<(usize, Option<u16>)> {
+    (1..=junction.streams.len()).filter(|&s| junction.stream(s).is_car()).map(|s| (s, junction.flow(s))).collect()
+}
+
+/// Random junctions are of all four periods, and most have counts of other periods that would be chosen if the period were not
+/// looked at: newer, larger, or both.
+#[test]
+fn periods_come_often() {
+    let mut r = Random::new(seed("periods_come_often", 20));
+    let mut sorts: BTreeMap<String, usize> = BTreeMap::new();
+    let mut hit = |sort: &str, is: bool| *sorts.entry(sort.to_string()).or_default() += is as usize;
+    const JUNCTIONS: usize = 10_000;
+    for _ in 0..JUNCTIONS {
+        let junction = if r.one_in(12) { limit_junction(&mut r) } else { rich_junction(&mut r) };
+        hit(&format!("planned {}", junction.period), true);
+        let others: Vec<&Count> = junction.counts.iter().filter(|c| c.period != junction.period).collect();
+        hit("with counts of other periods", !others.is_empty());
+        hit("chosen otherwise without periods", flows(&junction) != flows(&without_periods(&junction)));
+        for c in others {
+            let own = chosen(&junction, c.stream as usize);
+            let usable = c.count_day <= junction.design_day;
+            hit("newer", usable && c.count_day > own.count_day && c.flow <= own.flow);
+            hit("larger", usable && c.count_day == own.count_day && c.flow > own.flow);
+            hit("newer and larger", usable && c.count_day > own.count_day && c.flow > own.flow);
+            hit("older or after the design day", !usable || c.count_day < own.count_day);
+        }
+        junction.counts.iter().for_each(|c| hit(&format!("count of {}", c.period), true));
+    }
+    println!("{sorts:?}");
+    assert_eq!(sorts.len(), 4 + 2 + 4 + 4);
+    for (sort, times) in &sorts {
+        assert!(*times > 1_000, "{sort} came {times} times");
+    }
+    assert!(sorts["with counts of other periods"] > JUNCTIONS * 3 / 4, "{sorts:?}");
+    assert!(sorts["chosen otherwise without periods"] > JUNCTIONS / 2, "{sorts:?}");
+}
+
+/// Other counts of other periods, more of them or fewer, and no answer changes.
+#[test]
+fn counts_of_other_periods_change_no_answer() {
+    let mut r = Random::new(seed("counts_of_other_periods", 21));
+    let mut sorts: BTreeMap<&str, usize> = BTreeMap::new();
+    while sorts.values().sum::<usize>() < 8_000 {
+        let junction = if r.one_in(12) { limit_junction(&mut r) } else { rich_junction(&mut r) };
+        let (sort, other) = match r.from_to(1, 3) {
+            1 => ("changed", others_changed(&mut r, &junction)),
+            2 => ("added", others_added(&mut r, &junction)),
+            _ => ("removed", others_removed(&mut r, &junction)),
+        };
+        if other == junction {
+            continue;
+        }
+        *sorts.entry(sort).or_default() += 1;
+        let (one, two) = (junction.to_file(), other.to_file());
+        assert_eq!(read_junction(&two), Ok(other.clone()));
+        assert_eq!(flows(&other), flows(&junction), "{junction:?} {other:?}");
+        let plan = packed_plan(&mut r, &junction, &Entries::of(&junction)).to_file();
+        assert_eq!(judge(&two, &plan), judge(&one, &plan), "{junction:?} {other:?}");
+        let (mut a, mut b) = ([9; 140], [9; 140]);
+        assert_eq!(work_out(&two, &mut b), work_out(&one, &mut a), "{junction:?} {other:?}");
+        assert_eq!(a, b);
+        // without periods both would differ
+        if flows(&without_periods(&other)) != flows(&without_periods(&junction)) {
+            *sorts.entry("other flows without periods").or_default() += 1;
+        }
+    }
+    println!("{sorts:?}");
+    assert_eq!(sorts.len(), 4);
+    for (sort, times) in &sorts {
+        assert!(*times > 1_000, "{sort} came {times} times");
+    }
+}
+
+/// The four periods named otherwise, in heading and counts alike, and the counts of the period planned alone: no answer changes.
+#[test]
+fn periods_are_only_names() {
+    let mut r = Random::new(seed("periods_are_only_names", 22));
+    for _ in 0..4_000 {
+        let junction = if r.one_in(12) { limit_junction(&mut r) } else { rich_junction(&mut r) };
+        let by = r.from_to(1, 3) as u8;
+        let name = |period: u8| (period - 1 + by) % 4 + 1;
+        let mut named = Junction { period: name(junction.period), ..junction.clone() };
+        named.counts.iter_mut().for_each(|c| c.period = name(c.period));
+        let mut alone = Junction { period: 1, ..junction.clone() };
+        alone.counts.retain(|c| c.period == junction.period);
+        alone.counts.iter_mut().for_each(|c| c.period = 1);
+        let plan = packed_plan(&mut r, &junction, &Entries::of(&junction)).to_file();
+        let mut a = [9; 140];
+        let (judged, worked) = (judge(&junction.to_file(), &plan), work_out(&junction.to_file(), &mut a));
+        for other in [named, alone] {
+            let mut b = [9; 140];
+            assert_eq!(judge(&other.to_file(), &plan), judged, "{junction:?}");
+            assert_eq!(work_out(&other.to_file(), &mut b), worked, "{junction:?}");
+            assert_eq!(a, b);
+        }
+    }
+}
+
+/// Lengths of headings and counts, and periods out of range: each is refused with its number, at its field.
+#[test]
+fn faulty_periods() {
+    let mut r = Random::new(seed("faulty_periods", 23));
+    let mut lengths: BTreeMap<(u8, usize), usize> = BTreeMap::new();
+    let mut periods: BTreeMap<(u8, u8), usize> = BTreeMap::new();
+    let (mut flows_too, mut streams_too) = (0, 0);
+    for _ in 0..20_000 {
+        let file = rich_junction(&mut r).to_file();
+        let (other, place) = heading_or_count_of_another_length(&mut r, &file);
+        assert_eq!(read_junction(&other), Err(Refusal { number: 4, place }));
+        *lengths.entry((other[place], two(&other, place + 1) as usize)).or_default() += 1;
+        let (other, place) = period_out_of_range(&mut r, &file);
+        assert_eq!(read_junction(&other), Err(Refusal { number: 5, place }));
+        let body = &other[place + 3..];
+        let at = if other[place] == 1 { 4 } else { 7 };
+        *periods.entry((other[place], body[at])).or_default() += 1;
+        if other[place] == 4 {
+            flows_too += !(1..=9_999).contains(&two(body, 5)) as usize;
+            streams_too += !(1..=16).contains(&body[0]) as usize;
+        }
+    }
+    println!("tag and length {lengths:?}, {} sorts of field and period, {flows_too} flows, {streams_too} streams", periods.len());
+    // the lengths before request 2026-04, and one more than the right ones
+    for field in [(1, 4), (4, 7), (1, 6), (4, 9)] {
+        assert!(lengths[&field] > 1_000, "{field:?} came {} times", lengths[&field]);
+    }
+    for field in [(1, 0), (1, 5), (1, 255), (4, 0), (4, 5), (4, 255)] {
+        assert!(periods[&field] > 1_000, "{field:?} came {} times", periods[&field]);
+    }
+    assert!(periods.keys().all(|&(_, period)| !is_period(period as usize)));
+    assert!(flows_too > 1_000 && streams_too > 1_000);
+}
+
+/// A 129th count is 5 where its period is out of range, also with a stream that does not exist, and else 6.
+#[test]
+fn a_129th_count_of_no_period() {
+    let mut r = Random::new(seed("a_129th_count", 24));
+    for _ in 0..2_000 {
+        let mut junction = rich_junction(&mut r);
+        while junction.counts.len() < 129 {
+            junction.counts.push(r.pick(&junction.counts));
+        }
+        let file = junction.to_file();
+        let place = file.len() - 11;
+        if r.one_in(2) {
+            junction.counts[128].stream = r.pick(&[0, 17, 255]);
+        }
+        assert_eq!(read_junction(&junction.to_file()), Err(Refusal { number: 6, place }));
+        junction.counts[128].period = no_period(&mut r);
+        assert_eq!(read_junction(&junction.to_file()), Err(Refusal { number: 5, place }));
+    }
+}
+
+/// The files that aim at 4, 5 and 9 often fail there for an old length, for a period, and for a car without a count in the period.
+#[test]
+fn aimed_at_periods() {
+    let mut r = Random::new(seed("aimed_at_periods", 25));
+    let mut sorts: BTreeMap<&str, usize> = BTreeMap::new();
+    for number in [4, 5, 9] {
+        for _ in 0..10_000 {
+            let file = aimed_at(&mut r, number);
+            let Err(Refusal { number: given, place }) = read_junction(&file) else { continue };
+            let sort = match given {
+                4 if file[place] == 1 && two(&file, place + 1) == 4 => "heading of 4 bytes",
+                4 if file[place] == 4 && two(&file, place + 1) == 7 => "count of 7 bytes",
+                5 if file[place] == 1 => "heading's period",
+                5 if file[place] == 4 && !is_period(file[place + 10] as usize) => "count's period",
+                9 if counted_in_another_period(&file, place) => "counts of other periods alone",
+                _ => continue,
+            };
+            *sorts.entry(sort).or_default() += 1;
+        }
+    }
+    println!("{sorts:?}");
+    assert_eq!(sorts.len(), 5);
+    for (sort, times) in &sorts {
+        assert!(*times > 500, "{sort} came {times} times");
+    }
+}
+
+/// Has this file, which is refused 9 for the car, a usable count of it in another period?
+fn counted_in_another_period(file: &[u8], car: usize) -> bool {
+    (1..=4).any(|period| {
+        let mut other = file.to_vec();
+        other[7] = period;
+        !matches!(read_junction(&other), Err(Refusal { number: 9, place }) if place <= car)
+    })
 }

@@ -1,4 +1,4 @@
-//! Every example of the readings that concerns the base, and what requests 2026-01 to 2026-03 add to it.
+//! Every example of the readings that concerns the base, and what requests 2026-01 to 2026-04 add to it.
 mod common;
 use common::*;
 use model::annex::need;
@@ -37,62 +37,62 @@ fn junction_files() {
     // the empty file is 8; any other without a heading first is 3
     assert_eq!(reads(""), refused(8, 0));
     assert_eq!(reads("02 00 00"), refused(3, 0));
-    assert_eq!(read_junction(&bytes_of(WC)[7..]).map(|_| ()), refused(3, 0));
+    assert_eq!(read_junction(&bytes_of(WC)[8..]).map(|_| ()), refused(3, 0));
     // one or two stray bytes
-    assert_eq!(reads(&format!("{WC} 01")), refused(2, 58));
-    assert_eq!(reads(&format!("{WC} 04 00")), refused(2, 58));
-    assert_eq!(reads(&format!("{WC} 04 00 00")), refused(4, 58));
+    assert_eq!(reads(&format!("{WC} 01")), refused(2, 60));
+    assert_eq!(reads(&format!("{WC} 04 00")), refused(2, 60));
+    assert_eq!(reads(&format!("{WC} 04 00 00")), refused(4, 60));
     // a stream's empty body 4; unknown kind 5 whatever its length; known kind of another length 4
-    assert_eq!(reads("01 00 04 00 07 23 28 02 00 00"), refused(4, 7));
+    assert_eq!(reads("01 00 05 00 07 23 28 01 02 00 00"), refused(4, 8));
     for unknown in unknown_kinds() {
-        assert_eq!(reads(&format!("01 00 04 00 07 23 28 02 00 01 {unknown:02x}")), refused(5, 7));
-        assert_eq!(changed(10, unknown), refused(5, 7));
+        assert_eq!(reads(&format!("01 00 05 00 07 23 28 01 02 00 01 {unknown:02x}")), refused(5, 8));
+        assert_eq!(changed(11, unknown), refused(5, 8));
     }
     for known in 1..=5 {
-        assert_eq!(reads(&format!("01 00 04 00 07 23 28 02 00 01 {known:02x}")), refused(4, 7));
+        assert_eq!(reads(&format!("01 00 05 00 07 23 28 01 02 00 01 {known:02x}")), refused(4, 8));
     }
     for shorter_or_longer in 2..=5 {
-        assert_eq!(changed(10, shorter_or_longer), refused(4, 7));
+        assert_eq!(changed(11, shorter_or_longer), refused(4, 8));
     }
     // a stream number has no range of its own: 7 judges it, after 5 and 6
-    assert_eq!(changed(38, 0), refused(7, 35));
-    assert_eq!(changed(39, 255), refused(7, 35));
-    assert_eq!(changed(38, 2), refused(7, 35));
-    assert_eq!(changed(51, 0), refused(7, 48));
-    assert_eq!(changed(51, 2), refused(7, 48));
+    assert_eq!(changed(39, 0), refused(7, 36));
+    assert_eq!(changed(40, 255), refused(7, 36));
+    assert_eq!(changed(39, 2), refused(7, 36));
+    assert_eq!(changed(52, 0), refused(7, 49));
+    assert_eq!(changed(52, 2), refused(7, 49));
     let mut both = bytes_of(WC);
-    both[39] = 9;
-    both[40] = 4;
-    assert_eq!(read_junction(&both).map(|_| ()), refused(5, 35));
+    both[40] = 9;
+    both[41] = 4;
+    assert_eq!(read_junction(&both).map(|_| ()), refused(5, 36));
     // the 17th stream with a bad number is 5, else 6; the 65th zone with a missing stream is 6
-    let mut many = bytes_of(WC)[..23].to_vec();
+    let mut many = bytes_of(WC)[..24].to_vec();
     for _ in 0..16 {
-        many.extend(&bytes_of(WC)[23..35]);
+        many.extend(&bytes_of(WC)[24..36]);
     }
-    assert_eq!(read_junction(&many).map(|_| ()), refused(6, 203));
-    many[214] = 2;
-    assert_eq!(read_junction(&many).map(|_| ()), refused(5, 203));
+    assert_eq!(read_junction(&many).map(|_| ()), refused(6, 204));
+    many[215] = 2;
+    assert_eq!(read_junction(&many).map(|_| ()), refused(5, 204));
     let mut zones = whole_case();
     zones.zones = vec![zones.zones[0]; 65];
     zones.zones[64].b = 9;
-    assert_eq!(read_junction(&zones.to_file()).map(|_| ()), refused(6, 35 + 64 * 13));
+    assert_eq!(read_junction(&zones.to_file()).map(|_| ()), refused(6, 36 + 64 * 13));
     zones.zones[64].clearing_a = 1000;
-    assert_eq!(read_junction(&zones.to_file()).map(|_| ()), refused(5, 35 + 64 * 13));
+    assert_eq!(read_junction(&zones.to_file()).map(|_| ()), refused(5, 36 + 64 * 13));
     // shares 255 + 1 do not wrap
     let mut shares = bytes_of(WC);
-    shares[21] = 255;
-    shares[22] = 1;
-    assert_eq!(read_junction(&shares).map(|_| ()), refused(5, 7));
+    shares[22] = 255;
+    shares[23] = 1;
+    assert_eq!(read_junction(&shares).map(|_| ()), refused(5, 8));
     // figures that a car does not use are still in range
     let mut wide = whole_case();
     wide.streams[0] = car(1, Car { radius: 100, width: 299, ..CAR });
-    assert_eq!(read_junction(&wide.to_file()).map(|_| ()), refused(5, 7));
+    assert_eq!(read_junction(&wide.to_file()).map(|_| ()), refused(5, 8));
     wide.streams[0] = car(1, Car { rows: 3, ..CAR });
-    assert_eq!(read_junction(&wide.to_file()).map(|_| ()), refused(5, 7));
+    assert_eq!(read_junction(&wide.to_file()).map(|_| ()), refused(5, 8));
     // 8: phases exactly 1 to f, f at least 2
-    assert_eq!(changed(27, 3), refused(8, 58));
-    assert_eq!(read_junction(&bytes_of(WC)[..23]).map(|_| ()), refused(8, 23));
-    assert_eq!(read_junction(&bytes_of(WC)[..7]).map(|_| ()), refused(8, 7));
+    assert_eq!(changed(28, 3), refused(8, 60));
+    assert_eq!(read_junction(&bytes_of(WC)[..24]).map(|_| ()), refused(8, 24));
+    assert_eq!(read_junction(&bytes_of(WC)[..8]).map(|_| ()), refused(8, 8));
     // exactly 16,384 bytes is within 1
     assert_eq!(reads("00*16384"), refused(3, 0));
     assert_eq!(reads("00*16385"), refused(1, 0));
@@ -144,7 +144,7 @@ fn times_and_entries() {
 
 #[test]
 fn lent_list_of_counts() {
-    let record = |stream, count_day, file_day, flow| Count { stream, count_day, file_day, flow };
+    let record = |stream, count_day, file_day, flow| Count { stream, count_day, file_day, flow, period: 1 };
     let list = [
         record(0, 5, 9, 100),
         record(0, 6, 1, 200),
@@ -154,14 +154,14 @@ fn lent_list_of_counts() {
         record(0, 8, 0, 300),
         record(255, 0, 0, 9_999),
     ];
-    assert_eq!(flow_of_list(&list, 0, 7), Ok(200));
-    assert_eq!(flow_of_list(&list, 0, 8), Ok(300));
-    assert_eq!(flow_of_list(&list, 0, 5), Ok(100));
-    assert_eq!(flow_of_list(&list, 0, 4), refused(9, 0));
-    assert_eq!(flow_of_list(&list, 255, 0), Ok(9_999));
-    assert_eq!(flow_of_list(&list, 1, 65_535), refused(9, 1));
-    assert_eq!(flow_of_list(&[], 200, 65_535), refused(9, 200));
-    assert_eq!(flow_of_list(&vec![record(3, 1, 1, 7); 100_000], 3, 1), Ok(7));
+    assert_eq!(flow_of_list(&list, 0, 7, 1), Ok(200));
+    assert_eq!(flow_of_list(&list, 0, 8, 1), Ok(300));
+    assert_eq!(flow_of_list(&list, 0, 5, 1), Ok(100));
+    assert_eq!(flow_of_list(&list, 0, 4, 1), refused(9, 0));
+    assert_eq!(flow_of_list(&list, 255, 0, 1), Ok(9_999));
+    assert_eq!(flow_of_list(&list, 1, 65_535, 1), refused(9, 1));
+    assert_eq!(flow_of_list(&[], 200, 65_535, 1), refused(9, 200));
+    assert_eq!(flow_of_list(&vec![record(3, 1, 1, 7); 100_000], 3, 1, 1), Ok(7));
 }
 
 /// T0, the cycle and the tried count.
@@ -222,13 +222,13 @@ fn working_out() {
 // ---- request 2026-01: crossings with an island
 
 /// The whole case with kind 5 in the place of kind 3: wider carriageway 60, island 20, packet 40.
-const ISLAND_CASE: &str = "01 00 04 00 07 23 28 02 00 0d 01 01 03 00 00 00 01 5e 01 0a 02 00 00 \
+const ISLAND_CASE: &str = "01 00 05 00 07 23 28 01 02 00 0d 01 01 03 00 00 00 01 5e 01 0a 02 00 00 \
                            02 00 0f 05 02 0c 00 46 00 c8 00 00 00 3c 00 14 00 28 \
-                           03 00 0a 01 02 00 8c 00 4b 00 46 00 00 04 00 07 01 23 28 00 00 02 58";
+                           03 00 0a 01 02 00 8c 00 4b 00 46 00 00 04 00 08 01 23 28 00 00 02 58 01";
 
 /// The place of its island's tag, and its island's body.
-const ISLAND_AT: usize = 23;
-const ISLAND_BODY: Range<usize> = 26..41;
+const ISLAND_AT: usize = 24;
+const ISLAND_BODY: Range<usize> = 27..42;
 
 fn island_case() -> Junction {
     let mut j = whole_case();
@@ -372,9 +372,9 @@ fn islands_leave_and_reach_as_pedestrians() {
 fn islands_have_no_flow() {
     // a count that names one: 7 at the count's tag
     let mut counted = bytes_of(ISLAND_CASE);
-    assert_eq!((counted[54], counted[57]), (4, 1));
-    counted[57] = 2;
-    assert_eq!(read_junction(&counted).map(|_| ()), refused(7, 54));
+    assert_eq!((counted[55], counted[58]), (4, 1));
+    counted[58] = 2;
+    assert_eq!(read_junction(&counted).map(|_| ()), refused(7, 55));
     // no car: 8
     let none = junction(&[with_island(walk(1, 70, 200, false), 60, 20, 40), cyclist(2)], &[], &[]);
     assert_eq!(read_junction(&none.to_file()).map(|_| ()), refused(8, none.to_file().len()));
@@ -618,4 +618,157 @@ fn two_distances_a_direction() {
     assert_eq!(with_distances(140, 999, 0, 0), (5, 0));
     // the pedestrians' 70 and the car's 75 as before; the car's 3.6 is raised to amber + 1
     assert_eq!(with_distances(0, 75, 70, 999), (4, 4));
+}
+
+// ---- request 2026-04: morning, midday, evening
+
+/// Places in the whole case: the heading's period, the count's tag, its flow and its period.
+const HEADING_PERIOD: usize = 7;
+const COUNT_AT: usize = 49;
+const COUNT_FLOW: usize = 57;
+const COUNT_PERIOD: usize = 59;
+
+/// The whole case with these counts, planned in this period.
+fn in_period(period: u8, counts: &[Count]) -> Junction {
+    Junction { period, counts: counts.to_vec(), ..whole_case() }
+}
+
+/// One byte, 1 to 4, last in both bodies; any other number is 5 at the field's tag.
+#[test]
+fn periods_in_a_file() {
+    for period in 0..=255 {
+        let heading = match period {
+            1 => Ok(()),
+            2..=4 => refused(9, 1),
+            0 | 5..=255 => refused(5, 0),
+        };
+        assert_eq!(changed(HEADING_PERIOD, period), heading, "heading {period}");
+        let count = match period {
+            1 => Ok(()),
+            2..=4 => refused(9, 1),
+            0 | 5..=255 => refused(5, COUNT_AT),
+        };
+        assert_eq!(changed(COUNT_PERIOD, period), count, "count {period}");
+        // the same in both places
+        let mut both = bytes_of(WC);
+        both[HEADING_PERIOD] = period;
+        both[COUNT_PERIOD] = period;
+        let answer = if is_period(period as usize) { Ok(()) } else { refused(5, 0) };
+        assert_eq!(read_junction(&both).map(|_| ()), answer, "both {period}");
+    }
+    // flow and period out of range: one refusal
+    let mut both = bytes_of(WC);
+    both[COUNT_FLOW..=COUNT_PERIOD].copy_from_slice(&[0, 0, 0]);
+    assert_eq!(read_junction(&both).map(|_| ()), refused(5, COUNT_AT));
+}
+
+/// A heading of 5 bytes and a count of 8; the earlier 4 and 7 are refused, and every other length.
+#[test]
+fn lengths_with_a_period() {
+    let file = bytes_of(WC);
+    assert_eq!(file.len(), 60);
+    for length in (0..=20usize).chain([256 + 5, 256 + 8]) {
+        for filling in [1, 0, 255] {
+            let mut heading = file[3..8].to_vec();
+            heading.resize(length, filling);
+            let other = [&[1], &(length as u16).to_be_bytes()[..], &heading, &file[8..]].concat();
+            let answer = if length == 5 { Ok(()) } else { refused(4, 0) };
+            assert_eq!(read_junction(&other).map(|_| ()), answer, "heading of {length} bytes");
+            let mut count = file[COUNT_AT + 3..].to_vec();
+            count.resize(length, filling);
+            let other = [&file[..COUNT_AT + 1], &(length as u16).to_be_bytes()[..], &count].concat();
+            let answer = if length == 8 { Ok(()) } else { refused(4, COUNT_AT) };
+            assert_eq!(read_junction(&other).map(|_| ()), answer, "count of {length} bytes");
+        }
+    }
+}
+
+/// 5 comes before 6 and 7, and counts of every period count toward 128.
+#[test]
+fn periods_in_the_order_of_questions() {
+    let at = |count: usize| COUNT_AT + count * 11;
+    let mut j = in_period(3, &[count_in(1, 600, 2); 128]);
+    assert_eq!(read_junction(&j.to_file()).map(|_| ()), refused(9, 1));
+    j.counts[77].period = 3;
+    assert_eq!(read_junction(&j.to_file()), Ok(j.clone()));
+    j.counts.push(count_in(1, 600, 4));
+    assert_eq!(read_junction(&j.to_file()).map(|_| ()), refused(6, at(128)));
+    j.counts[128].period = 5;
+    assert_eq!(read_junction(&j.to_file()).map(|_| ()), refused(5, at(128)));
+    j.counts[5] = count_in(2, 600, 4);
+    assert_eq!(read_junction(&j.to_file()).map(|_| ()), refused(7, at(5)));
+    j.counts[5].period = 0;
+    assert_eq!(read_junction(&j.to_file()).map(|_| ()), refused(5, at(5)));
+    // the heading's period before every other field
+    j.period = 0;
+    assert_eq!(read_junction(&j.to_file()).map(|_| ()), refused(5, 0));
+}
+
+/// A car's flow is chosen among counts of the heading's period.
+#[test]
+fn flows_in_a_period() {
+    let day = |count_day, flow, period| Count { stream: 1, count_day, file_day: 0, flow, period };
+    let flow = |period, counts: &[Count]| read_junction(&in_period(period, counts).to_file()).map(|j| j.flow(1).expect("question 9"));
+    // a newer and larger count of another period has no effect
+    let counts = [day(8_000, 600, 1), day(9_000, 900, 2)];
+    assert_eq!((flow(1, &counts), flow(2, &counts)), (Ok(600), Ok(900)));
+    assert_eq!((flow(3, &counts), flow(4, &counts)), (refused(9, 1), refused(9, 1)));
+    // in the period, the newest not after the design day; of equals, the larger
+    let counts = [day(8_999, 500, 4), day(8_999, 501, 4), day(8_998, 9_999, 4), day(9_001, 700, 4), day(9_000, 800, 3)];
+    assert_eq!((flow(4, &counts), flow(3, &counts)), (Ok(501), Ok(800)));
+    // only after the design day in the period
+    assert_eq!(flow(4, &counts[3..]), refused(9, 1));
+    // each car by itself: the second has none in the period
+    let counts = [count_in(1, 600, 1), count_in(1, 500, 2), count_in(2, 400, 2)];
+    let two_cars = |period| Junction { period, ..junction(&[car(1, CAR), car(2, CAR)], &[], &counts) };
+    assert_eq!(read_junction(&two_cars(1).to_file()).map(|_| ()), refused(9, 2));
+    assert_eq!(read_junction(&two_cars(2).to_file()).map(|j| (j.flow(1), j.flow(2))), Ok((Some(500), Some(400))));
+    assert_eq!(read_junction(&two_cars(3).to_file()).map(|_| ()), refused(9, 1));
+}
+
+/// The same counts planned in two periods. Heading 2: y is 10,000 x 900/1,925, up to 4,676, L is 14, and (33) asks for
+/// T x T x 5,324 >= 16,800,000: 57. Effective green 43, green 42; the pedestrian starts at 42 + 5.
+#[test]
+fn working_out_in_a_period() {
+    let counts = [count_in(1, 600, 1), count_in(1, 900, 2)];
+    let mut buffer = [0; 21];
+    let one = work_out(&in_period(1, &counts).to_file(), &mut buffer).unwrap();
+    assert_eq!((one.first_length, one.cycle), (50, 50));
+    assert_eq!(buffer[..], bytes_of(WP));
+    let two = work_out(&in_period(2, &counts).to_file(), &mut buffer).unwrap();
+    assert_eq!((two.first_length, two.cycle), (57, 57));
+    assert_eq!(buffer[..], plan_file(57, &[(0, 42), (47, 6)]));
+}
+
+/// A plan is judged against the flow of the heading's period: 1,400 x 50 = 70,000 is more than 1,925 x 36 = 69,300.
+#[test]
+fn judging_in_a_period() {
+    let counts = [count_in(1, 600, 1), count_in(1, 1_400, 2), count_in(1, 1_386, 4)];
+    let judged = |period| judge(&in_period(period, &counts).to_file(), &bytes_of(WP));
+    assert_eq!(judged(1), Ok(()));
+    assert_eq!(judged(2), refused(16, 1));
+    assert_eq!(judged(3), refused(9, 1));
+    // 1,386 x 50 = 69,300
+    assert_eq!(judged(4), Ok(()));
+}
+
+/// In a lent list a period outside 1 to 4, asked for or in a record, matches nothing.
+#[test]
+fn periods_of_a_lent_list() {
+    let record = |count_day, flow, period| Count { stream: 1, count_day, file_day: 0, flow, period };
+    let list = [record(9_000, 600, 1), record(9_000, 700, 2), record(8_999, 9_999, 5), record(9_000, 800, 0)];
+    let asked = |period| flow_of_list(&list, 1, 9_000, period);
+    assert_eq!((asked(1), asked(2)), (Ok(600), Ok(700)));
+    for none in [3, 4, 0, 5, 6, 255, 256, 257, 258, 65_537, (1 << 32) + 1, usize::MAX] {
+        assert_eq!(asked(none), refused(9, 1), "period {none}");
+    }
+    // a record of the same number as is asked for, for every byte
+    for period in 0..=255u8 {
+        let answer = if is_period(period as usize) { Ok(600) } else { refused(9, 1) };
+        assert_eq!(flow_of_list(&[record(9_000, 600, period)], 1, 9_000, period as usize), answer, "period {period}");
+        assert_eq!(flow_of_list(&[record(9_000, 600, period)], 1, 9_000, period as usize + 256), refused(9, 1));
+    }
+    // place: the stream asked for, whatever it is
+    assert_eq!(flow_of_list(&list, 300, 9_000, 1), refused(9, 300));
+    assert_eq!(flow_of_list(&list, usize::MAX, 9_000, 0), refused(9, usize::MAX));
 }

@@ -17,6 +17,7 @@ pub struct Refusal {
 #[derive(Clone, Copy, PartialEq, Eq, Debug)]
 pub struct Held {
     pub design_day: u16,
+    pub period: u8,
     pub streams: usize,
     pub zones: usize,
     pub counts: usize,

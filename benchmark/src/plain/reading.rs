@@ -76,10 +76,12 @@ struct Count {
     stream: usize,
     day: u16,
     flow: u16,
+    period: u8,
 }
 
 pub struct Junction {
     day: u16,
+    period: u8,
     streams: [Stream; 16],
     zones: [Zone; 64],
     counts: [Count; 128],
@@ -95,7 +97,7 @@ pub fn number(bytes: &[u8], at: usize) -> u16 {
 #[inline(never)]
 pub fn read(file: &[u8]) -> Result<Held, Refusal> {
     let j = Junction::read(file)?;
-    Ok(Held { design_day: j.day, streams: j.stream_count, zones: j.zone_count, counts: j.count_count })
+    Ok(Held { design_day: j.day, period: j.period, streams: j.stream_count, zones: j.zone_count, counts: j.count_count })
 }
 
 impl Junction {
@@ -107,11 +109,11 @@ impl Junction {
         &self.zones[..self.zone_count]
     }
 
-    /// The flow of a stream: the greatest count day not after the design day; of equals, the larger flow.
+    /// The flow of a stream: of the counts of the period, the greatest count day not after the design day; of equals, the larger flow.
     pub fn flow(&self, stream: usize) -> Option<u16> {
         let mut best = 0;
         for c in &self.counts[..self.count_count] {
-            if c.stream == stream && c.day <= self.day {
+            if c.stream == stream && c.day <= self.day && c.period == self.period {
                 best = best.max((c.day as u32) << 16 | c.flow as u32);
             }
         }
@@ -121,9 +123,10 @@ impl Junction {
     fn empty() -> Junction {
         Junction {
             day: 0,
+            period: 0,
             streams: [Stream { phase: 0, kind: Kind::Cyclist { counted: false } }; 16],
             zones: [Zone { a: 0, b: 0, clearing_a: 0, reaching_a: 0, clearing_b: 0, reaching_b: 0 }; 64],
-            counts: [Count { stream: 0, day: 0, flow: 0 }; 128],
+            counts: [Count { stream: 0, day: 0, flow: 0, period: 0 }; 128],
             stream_count: 0,
             zone_count: 0,
             count_count: 0,
@@ -168,10 +171,14 @@ impl Junction {
     }
 
     fn heading(&mut self, body: &[u8]) -> Result<(), u8> {
-        if body.len() != 4 {
+        if body.len() != 5 {
             return Err(4);
         }
+        if !(1..=4).contains(&body[4]) {
+            return Err(5);
+        }
         self.day = number(body, 2);
+        self.period = body[4];
         Ok(())
     }
 
@@ -230,11 +237,11 @@ impl Junction {
     }
 
     fn count(&mut self, body: &[u8]) -> Result<(), u8> {
-        if body.len() != 7 {
+        if body.len() != 8 {
             return Err(4);
         }
-        let (stream, day, flow) = (body[0] as usize, number(body, 1), number(body, 5));
-        if !(1..=9_999).contains(&flow) {
+        let (stream, day, flow, period) = (body[0] as usize, number(body, 1), number(body, 5), body[7]);
+        if !(1..=9_999).contains(&flow) || !(1..=4).contains(&period) {
             return Err(5);
         }
         if self.count_count == 128 {
@@ -243,7 +250,7 @@ impl Junction {
         if stream < 1 || stream > self.stream_count || !self.streams[stream - 1].is_car() {
             return Err(7);
         }
-        self.counts[self.count_count] = Count { stream: stream - 1, day, flow };
+        self.counts[self.count_count] = Count { stream: stream - 1, day, flow, period };
         self.count_count += 1;
         Ok(())
     }

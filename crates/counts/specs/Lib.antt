@@ -1,2 +1,4 @@
 pub mod Newest
+pub mod Usable
 pub mod Chosen
+pub mod OtherPeriods

@@ -1,33 +1,56 @@
-// The choice of a count, on numbers (document 01: the greatest count day not after the design day; of equals, the larger flow).
+// The choice of a count (document 01: the greatest count day not after the design day; of equals, the larger flow; document 02, 2026-04: of the
+// counts of one period).
 ghost use mathlib.Core.Path.{_≡_};
 ghost use Prim.Native.Nat.{max};
 ghost use Rattle.counts.specs.Newest.{usable as isUsable, rank as rankOf, rankDay, rankFlow};
 use limits::GREATEST_FLOW;
+use limits::GREATEST_PERIOD;
 use limits::LEAST_FLOW;
+use limits::LEAST_PERIOD;
 
-// The larger of the rank so far and a count's. The rank of a usable count is its day times 65,536 plus its flow, and 0 of another; the
-// rank so far is 0 where no usable count has come. asked is the car stream's number and design the
-// design day; the rest is the count.
-pub fn newer(best: u32, asked: usize, design: u16, stream: u8, day: u16, flow: u16) -> u32
-    ensures { λ r. ⌜ r ≡ max best (rankOf asked design stream day flow) ⌝ }
-{
-    laws::u32_larger(best, rank(asked, design, stream, day, flow))
+// A traffic count: the car stream's number, the day of the count, the flow in E/h, the period of the day.
+pub struct Count {
+    pub stream: u8,
+    pub day: u16,
+    pub flow: u16,
+    pub period: u8,
 }
 
-fn rank(asked: usize, design: u16, stream: u8, day: u16, flow: u16) -> u32
-    ensures { λ r. ⌜ r ≡ rankOf asked design stream day flow ⌝ }
+// What a count is asked for: a car stream's number, the design day, a period. A number is as wide as a caller can hand it in.
+pub struct Wanted {
+    pub stream: usize,
+    pub day: u16,
+    pub period: usize,
+}
+
+// The larger of the rank so far and a count's. The rank of a usable count is its day times 65,536 plus its flow, and 0 of another; the
+// rank so far is 0 where no usable count has come.
+pub fn newer(best: u32, w: Wanted, c: Count) -> u32
+    ensures { λ r. ⌜ r ≡ max best (rankOf w c) ⌝ }
 {
-    if usable(asked, design, stream, day, flow) {
-        day as u32 * 65536 + flow as u32
+    laws::u32_larger(best, rank(w, c))
+}
+
+fn rank(w: Wanted, c: Count) -> u32
+    ensures { λ r. ⌜ r ≡ rankOf w c ⌝ }
+{
+    if usable(w, c) {
+        c.day as u32 * 65536 + c.flow as u32
     } else {
         0
     }
 }
 
-fn usable(asked: usize, design: u16, stream: u8, day: u16, flow: u16) -> bool
-    ensures { λ r. ⌜ r ≡ isUsable asked design stream day flow ⌝ }
+fn usable(w: Wanted, c: Count) -> bool
+    ensures { λ r. ⌜ r ≡ isUsable w c ⌝ }
 {
-    (stream as usize == asked) & (day <= design) & (LEAST_FLOW <= flow) & (flow <= GREATEST_FLOW)
+    (c.stream as usize == w.stream)
+        & (c.day <= w.day)
+        & (c.period as usize == w.period)
+        & (LEAST_PERIOD <= c.period)
+        & (c.period <= GREATEST_PERIOD)
+        & (LEAST_FLOW <= c.flow)
+        & (c.flow <= GREATEST_FLOW)
 }
 
 // The day of the count with a rank, 0 where there is none.

@@ -35,6 +35,7 @@ pub record FartherSide (near far : Side) : Type 0 where
 -- a junction with no clearing distance that is less, alike in all else
 pub record Farther (near far : Junction) : Type 0 where
   pub day : far .day ≡ near .day
+  pub period : far .period ≡ near .period
   pub held : far .held ≡ near .held
   pub streams : far .streams ≡ near .streams
   pub counts : far .counts ≡ near .counts
@@ -83,7 +84,7 @@ module _ (near far : Junction) (farther : Farther near far) where
 
   flow-same : (n : ℕ) → streamFlow far n ≡ streamFlow near n
   unfolding streamFlow newestRank rankAt countAt
-  flow-same n = rw (farther .day, farther .held, farther .counts)
+  flow-same n = rw (farther .day, farther .period, farther .held, farther .counts)
 
   saturation-same : (n : ℕ) → streamSaturation far n ≡ streamSaturation near n
   unfolding streamSaturation

@@ -68,7 +68,8 @@ pub record FiguresExact (junction : List ℕ) : Type 0 where
   pub saturation : (n : ℕ) → countRefers (junctionOf junction) n ≡ true → (c : CarFigures)
       → streamNumbered (junctionOf junction) n .kind ≡ Car c → (k : ℕ)
       → (k ≤ saturationAnswer junction n .value) ↔ (k * denominator c ≤ numerator c)
-  -- a car's flow is that of the count with the greatest count day not after the design day, of equals the larger, by the file's bytes
+  -- a car's flow is, of the counts of the period that is planned, that of the one with the greatest count day not after the design day, of
+  -- equals the larger, by the file's bytes
   pub flow : (n : ℕ) → countRefers (junctionOf junction) n ≡ true
       → let held = junctionOf junction .held in
       FlowOf junction n (held .streams + held .zones) (held .counts) (streamFlow (junctionOf junction) n)

@@ -12,6 +12,7 @@ use mathlib.Core.Path.{_≡_, ap}
 use lib.ListN.{length}
 use Rattle.fields.specs.Verdict.{isRefused}
 use Rattle.fields.specs.declared.Verdict.the-variants.{Refused}
+use Rattle.counts.specs.declared.Wanted.{Wanted}
 use Rattle.junction_file.specs.Reading.{reading}
 use Rattle.plan_file.specs.Plans.{planOf}
 use Rattle.plan_rules.specs.Rules.{needMet, capacityMet, zoneMet}
@@ -63,8 +64,8 @@ pub record FirstDemand : Type 0 where
   pub ratio : (junction : List ℕ) (n : ℕ)
       → AnswersBy (ratioAnswer junction n .refusal) (ratioAnswer junction n .place) (carAsked junction n) (FigurePlace junction (λ p. p ≡ n) ⊥)
   -- of a lent list: 9 at the stream asked for
-  pub newest : (list : List CountRecord) (asked design : ℕ)
-      → AnswersBy (newestAnswer list asked design .refusal) (newestAnswer list asked design .place) (listAsked list asked design) (ListPlace asked)
+  pub newest : (list : List CountRecord) (w : Wanted)
+      → AnswersBy (newestAnswer list w .refusal) (newestAnswer list w .place) (listAsked list w) (ListPlace (w .stream))
 
 pub first-demand : FirstDemand
 first-demand =

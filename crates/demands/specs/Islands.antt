@@ -44,7 +44,8 @@ abbrev pub plainStream : Stream → Stream
 plainStream s = record { phase = s .phase; kind = plain (s .kind) }
 
 abbrev pub withoutIslands : Junction → Junction
-withoutIslands j = record { day = j .day; held = j .held; streams = map plainStream (j .streams); zones = j .zones; counts = j .counts }
+withoutIslands j =
+    record { day = j .day; period = j .period; held = j .held; streams = map plainStream (j .streams); zones = j .zones; counts = j .counts }
 
 pub record AsPedestrian (j : Junction) : Type 0 where
   -- it leaves and reaches as a pedestrian, (5, 12) and (17, 18), so that every entry stays

@@ -5,6 +5,7 @@ pub mod Files
 pub mod FirstDemand
 pub mod Islands
 pub mod OneDirection
+pub mod OtherPeriods
 pub mod Places
 pub mod Questions
 pub mod SecondDemand

@@ -9,6 +9,7 @@ use lib.ListN.{length}
 use Rattle.laws.specs.Ranges.{Between}
 use Rattle.fields.specs.Bytes.{byteAt, numberAt, fieldEnd, fits, bodyOf}
 use Rattle.fields.specs.declared.Verdict.the-variants.{Passed}
+use Rattle.counts.specs.declared.Wanted.{Wanted}
 use Rattle.junction.specs.declared.Junction.{Junction}
 use Rattle.junction_places.specs.Blank.{blank}
 use Rattle.junction_questions.specs.Questions.{inOrder, lengthRight, inRange, withinLimit, refers, namedBy, countRefers, lacksCount, whole}
@@ -35,11 +36,11 @@ fieldAsked s at j =
     ∷ question 6 at (withinLimit (byteAt s at) (j .held))
     ∷ question 7 at (refers (byteAt s at) (j .held .streams) (bodyOf s at) (namedBy j (bodyOf s at) 0) (namedBy j (bodyOf s at) 1)) ∷ []
 
--- stream n is no car or has a usable count
+-- stream n is no car or has a usable count in the period
 unfoldable pub counted : Junction → ℕ → Bool
 counted j n = not (lacksCount j (n - 1))
 
--- then 8 (file length): heading, phases and a car there? 9 (stream, lowest first): has each car a usable count?
+-- then 8 (file length): heading, phases and a car there? 9 (stream, lowest first): has each car a usable count in the period?
 unfoldable pub wholeAsked : ℕ → Junction → List Question
 wholeAsked size j = question 8 size (whole j) ∷ each (counted j) 9 (j .held .streams)
 
@@ -119,5 +120,5 @@ abbrev pub carAsked : List ℕ → ℕ → List Question
 carAsked junction n = junctionAsked junction ++ (question 7 n (countRefers (reading junction .junction) n) ∷ [])
 
 -- the lent list: 9, place the stream asked for, is a record usable?
-abbrev pub listAsked : List CountRecord → ℕ → ℕ → List Question
-listAsked list asked design = question 9 asked (leb 1 (listRank asked design list)) ∷ []
+abbrev pub listAsked : List CountRecord → Wanted → List Question
+listAsked list w = question 9 (w .stream) (leb 1 (listRank w list)) ∷ []

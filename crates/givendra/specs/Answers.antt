@@ -20,7 +20,7 @@ use Rattle.givendra.specs.declared.Figure.{Figure}
 
 -- the release: GIVENDRA_RELEASE of include/givendra.h
 abbrev pub release : ℕ
-release = 1
+release = 2
 
 -- the judge's verdict
 unfoldable pub judgeAnswer : List ℕ → List ℕ → JudgeAnswer
@@ -48,6 +48,7 @@ junctionAnswer junction =
       place = placeOf (reading junction .verdict);
       refusal = numberOf (reading junction .verdict);
       «design_day» = unlessRefused (reading junction .verdict) (reading junction .junction .day);
+      period = unlessRefused (reading junction .verdict) (reading junction .junction .period);
       streams = unlessRefused (reading junction .verdict) (reading junction .junction .held .streams);
       zones = unlessRefused (reading junction .verdict) (reading junction .junction .held .zones);
       counts = unlessRefused (reading junction .verdict) (reading junction .junction .held .counts);

@@ -5,7 +5,9 @@ ghost use Prim.Native.Nat.{max};
 ghost use lib.ListN.{length};
 ghost use Rattle.planner.specs.WorkingOut.{buffer as bufferAfter};
 ghost use Rattle.givendra.specs.Answers.{release, judgeAnswer, planAnswer, junctionAnswer, figure as figureOf, intergreenVerdict, intergreenAnswer, needVerdict, needAnswer, carVerdict, saturationAnswer, ratioAnswer};
-ghost use Rattle.givendra.specs.LentList.{recordRank, newestAnswer, newestFigure};
+ghost use Rattle.givendra.specs.LentList.{wanted, recordRank, newestAnswer, newestFigure};
+use counts::Count;
+use counts::Wanted;
 use fields::Verdict;
 use fields::ask;
 use junction::Junction;
@@ -33,6 +35,7 @@ pub struct JunctionAnswer {
     pub place: usize,
     pub refusal: u8,
     pub design_day: u16,
+    pub period: u8,
     pub streams: usize,
     pub zones: usize,
     pub counts: usize,
@@ -51,7 +54,7 @@ pub struct Figure {
 pub extern "C" fn givendra_release() -> u32
     ensures { λ r. ⌜ r ≡ release ⌝ }
 {
-    1
+    2
 }
 
 // Judges a plan file for a junction file.
@@ -111,6 +114,7 @@ pub extern "C" fn givendra_read_junction(junction: &[u8]) -> JunctionAnswer
             place: 0,
             refusal: 0,
             design_day: j.day,
+            period: j.period,
             streams: j.held.streams,
             zones: j.held.zones,
             counts: j.held.counts,
@@ -119,6 +123,7 @@ pub extern "C" fn givendra_read_junction(junction: &[u8]) -> JunctionAnswer
             place,
             refusal: number,
             design_day: 0,
+            period: 0,
             streams: 0,
             zones: 0,
             counts: 0,
@@ -235,28 +240,41 @@ pub struct CountRecord {
     pub count_day: u16,
     pub file_day: u16,
     pub flow: u16,
+    pub period: u8,
 }
 
-// The higher of two ranks: the highest so far, and that of a record.
-fn newer_record(best: u32, stream: usize, design_day: u16, r: CountRecord) -> u32
-    ensures { λ x. ⌜ x ≡ max best (recordRank stream «design_day» r) ⌝ }
+// The higher of two ranks: the highest so far, and that of a record. Its file day has no part in it.
+fn newer_record(best: u32, stream: usize, design_day: u16, period: usize, r: CountRecord) -> u32
+    ensures { λ x. ⌜ x ≡ max best (recordRank (wanted stream «design_day» period) r) ⌝ }
 {
-    counts::newer(best, stream, design_day, r.stream, r.count_day, r.flow)
+    let wanted = Wanted {
+        stream,
+        day: design_day,
+        period,
+    };
+    let count = Count {
+        stream: r.stream,
+        day: r.count_day,
+        flow: r.flow,
+        period: r.period,
+    };
+    counts::newer(best, wanted, count)
 }
 
-// The flow of a stream by a lent list of counts, in E/h.
+// The flow of a stream in a period by a lent list of counts, in E/h.
 #[no_mangle]
 pub extern "C" fn givendra_newest_count(
     list: &[CountRecord],
     stream: usize,
     design_day: u16,
+    period: usize,
 ) -> Figure
-    ensures { λ r. ⌜ r ≡ newestAnswer (now (list .entry)) stream «design_day» ⌝ }
+    ensures { λ r. ⌜ r ≡ newestAnswer (now (list .entry)) (wanted stream «design_day» period) ⌝ }
 {
     let mut best: u32 = 0;
     let mut place: usize = 0;
     while place < list.len() {
-        best = newer_record(best, stream, design_day, list[place]);
+        best = newer_record(best, stream, design_day, period, list[place]);
         place += 1;
     }
     newest_figure(stream, best)

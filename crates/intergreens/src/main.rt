@@ -62,8 +62,7 @@ fn put_figures(j: Junction, out: &mut [u8]) -> usize {
     let begin = put(out, head, b"\n");
     let matrix = put_lines(j, Table::Matrix, out, begin);
     let unchecked = put_unchecked(j, out, matrix);
-    let streams = put(out, unchecked, b"\n\nStreams\n");
-    put_lines(j, Table::Streams, out, streams)
+    put_streams(j, out, unchecked)
 }
 
 // The pairs that are not checked, on one line.
@@ -74,6 +73,14 @@ fn put_unchecked(j: Junction, out: &mut [u8], at: usize) -> usize {
         return put(out, end, b" none");
     }
     end
+}
+
+// Each stream's figures, under the period in which the flows were counted.
+fn put_streams(j: Junction, out: &mut [u8], at: usize) -> usize {
+    let title = put(out, at, b"\n\nStreams, with flows counted in period ");
+    let period = put_number(out, title, j.period as u64);
+    let begin = put(out, period, b"\n");
+    put_lines(j, Table::Streams, out, begin)
 }
 
 // What a table has for each stream.

@@ -8,28 +8,34 @@ use mathlib.Core.Path.{_≡_}
 use lib.Dec.{leb, eqb}
 use lib.ListN.{length}
 use borrow.Author.Tests.{ne-eqb}
-use Rattle.limits.specs.Limits.{leastFlow, greatestFlow, mostPhases}
+use Rattle.limits.specs.Limits.{leastFlow, greatestFlow, leastPeriod, greatestPeriod, mostPhases}
 use Rattle.fields.specs.Bytes.{byteAt, numberAt, byteIn, numberIn}
 use Rattle.streams.specs.declared.Kind.{Kind}
 use Rattle.streams.specs.declared.Kind.the-variants.{Car, Tram, Pedestrian, Cyclist, Island}
 use Rattle.streams.specs.declared.PedestrianFigures.{PedestrianFigures}
 use Rattle.streams.specs.declared.Stream.{Stream}
+use Rattle.counts.specs.declared.Count.{Count}
 use Rattle.junction.specs.declared.Zone.{Zone}
-use Rattle.junction.specs.declared.Count.{Count}
 
 -- how long the bodies of 01, 03 and 04 are; a stream's length goes by its kind
 abbrev pub headingLength : ℕ
-headingLength = 4
+headingLength = 5
 
 abbrev pub zoneLength : ℕ
 zoneLength = 10
 
 abbrev pub countLength : ℕ
-countLength = 7
+countLength = 8
 
--- 01 heading, 4 bytes: junction number (2), design day (2)
+-- 01 heading, 5 bytes: junction number (2), design day (2), the period that is planned (1; 1 to 4: document 02, 2026-04)
 unfoldable pub designDay : List ℕ → ℕ
 designDay b = numberAt b 2
+
+unfoldable pub plannedPeriod : List ℕ → ℕ
+plannedPeriod b = byteAt b 4
+
+unfoldable pub headingInRange : List ℕ → Bool
+headingInRange b = byteIn b 4 leastPeriod greatestPeriod
 
 -- 02 stream: kind (1), phase (1; 1 to 6), then by kind.
 -- 1 car, 13 bytes: amber (1; 3 to 5), start (1; 0 or 1), radius (2; 0 or 30 to 9,999), width in cm (2; 300 to 1,500), rows (1; 1 or 2),
@@ -151,9 +157,10 @@ zoneOf b =
       b = record { stream = byteAt b 1; clearing = numberAt b 6; reaching = numberAt b 8 };
     }
 
--- 04 count, 7 bytes: car stream (1), count day (2), file day (2), flow in E/h (2; 1 to 9,999). The file day is not kept
+-- 04 count, 8 bytes: car stream (1), count day (2), file day (2), flow in E/h (2; 1 to 9,999), period (1; 1 to 4: document 02, 2026-04). The
+-- file day is not kept
 unfoldable pub countInRange : List ℕ → Bool
-countInRange b = numberIn b 5 leastFlow greatestFlow
+countInRange b = numberIn b 5 leastFlow greatestFlow && byteIn b 7 leastPeriod greatestPeriod
 
 unfoldable pub countOf : List ℕ → Count
-countOf b = record { stream = byteAt b 0; day = numberAt b 1; flow = numberAt b 5 }
+countOf b = record { stream = byteAt b 0; day = numberAt b 1; flow = numberAt b 5; period = byteAt b 7 }

@@ -1,12 +1,15 @@
 // A junction, and what the bodies of a junction file's fields say (document 01, "The junction file").
 ghost use mathlib.Core.Path.{_≡_};
-ghost use Rattle.junction.specs.Layout.{designDay, radiusInRange, sharesInRange, carInRange, carOf, tramInRange, tramOf, pedestrianInRange, walkOf, pedestrianOf, cyclistInRange, cyclistOf, islandInRange, islandOf, streamLengthRight, streamInRange, kindOf, streamOf, zoneInRange, zoneOf, countInRange, countOf};
+ghost use Rattle.junction.specs.Layout.{designDay, plannedPeriod, headingInRange, radiusInRange, sharesInRange, carInRange, carOf, tramInRange, tramOf, pedestrianInRange, walkOf, pedestrianOf, cyclistInRange, cyclistOf, islandInRange, islandOf, streamLengthRight, streamInRange, kindOf, streamOf, zoneInRange, zoneOf, countInRange, countOf};
+use counts::Count;
 use fields::byte;
 use fields::byte_in;
 use fields::number;
 use fields::number_in;
 use limits::GREATEST_FLOW;
+use limits::GREATEST_PERIOD;
 use limits::LEAST_FLOW;
+use limits::LEAST_PERIOD;
 use limits::MOST_COUNTS;
 use limits::MOST_STREAMS;
 use limits::MOST_ZONES;
@@ -31,13 +34,6 @@ pub struct Zone {
     pub b: Side,
 }
 
-// A traffic count: the car stream's number, the day of the count, the flow in E/h.
-pub struct Count {
-    pub stream: u8,
-    pub day: u16,
-    pub flow: u16,
-}
-
 // How many of each a file has, and the tag of its last field so far, 0 before the first.
 pub struct Held {
     pub last: u8,
@@ -47,8 +43,9 @@ pub struct Held {
 }
 
 pub struct Junction {
-    // The design day.
+    // The design day, and the period that is planned.
     pub day: u16,
+    pub period: u8,
     pub held: Held,
     pub streams: [Stream; MOST_STREAMS],
     pub zones: [Zone; MOST_ZONES],
@@ -66,6 +63,20 @@ pub fn design_day(b: &[u8]) -> u16
     ensures { λ r. ⌜ r ≡ designDay (now (b .entry)) ⌝ }
 {
     number(b, 2)
+}
+
+// The period that a heading's body plans.
+pub fn planned_period(b: &[u8]) -> u8
+    ensures { λ r. ⌜ r ≡ plannedPeriod (now (b .entry)) ⌝ }
+{
+    byte(b, 4)
+}
+
+// Whether the period of a heading's body is in range.
+pub fn heading_in_range(b: &[u8]) -> bool
+    ensures { λ r. ⌜ r ≡ headingInRange (now (b .entry)) ⌝ }
+{
+    byte_in(b, 4, LEAST_PERIOD, GREATEST_PERIOD)
 }
 
 // Whether a stream's body is as long as its kind asks; that of an unknown kind is not judged.
@@ -275,11 +286,11 @@ pub fn zone_of(b: &[u8]) -> Zone
     }
 }
 
-// Whether the flow of a count's body is in range.
+// Whether flow and period of a count's body are in range.
 pub fn count_in_range(b: &[u8]) -> bool
     ensures { λ r. ⌜ r ≡ countInRange (now (b .entry)) ⌝ }
 {
-    number_in(b, 5, LEAST_FLOW, GREATEST_FLOW)
+    number_in(b, 5, LEAST_FLOW, GREATEST_FLOW) & byte_in(b, 7, LEAST_PERIOD, GREATEST_PERIOD)
 }
 
 // The count of a body; its file day is not kept.
@@ -290,5 +301,6 @@ pub fn count_of(b: &[u8]) -> Count
         stream: byte(b, 0),
         day: number(b, 1),
         flow: number(b, 5),
+        period: byte(b, 7),
     }
 }

@@ -1,4 +1,4 @@
--- A junction file is taken exactly where it is, field by field, what document 01 describes.
+-- A junction file is taken exactly where it is, field by field, what documents 01 and 02 describe.
 use Prim.Native.Nat.{ℕ, zero, suc, _+_, _-_, _≤_, _<_, zero-le}
 use native.Mathlib.Numerals.{add-one}
 use native.Mathlib.Omega.{arith}
@@ -12,14 +12,14 @@ use borrow.Author.Tests.{eq-eqb, ne-eqb, lt-ltb, ltb-false, le-leb, leb-true, le
 use Rattle.laws.specs.Ranges.{Between}
 use Rattle.laws.specs.Search.{first-passes, first-fails}
 use Rattle.laws.specs.Tests.{by-test}
-use Rattle.limits.specs.Limits.{leastFlow, greatestFlow, mostStreams, mostZones, mostCounts}
-use Rattle.fields.specs.Bytes.{byteAt, numberAt, numberIn, fits, fits-within}
+use Rattle.limits.specs.Limits.{leastFlow, greatestFlow, leastPeriod, greatestPeriod, mostStreams, mostZones, mostCounts}
+use Rattle.fields.specs.Bytes.{byteAt, numberAt, byteIn, numberIn, fits, fits-within}
 use Rattle.fields.specs.Verdict.{isRefused}
 use Rattle.fields.specs.declared.Verdict.the-variants.{Passed}
+use Rattle.counts.specs.declared.Count.{Count}
 use Rattle.streams.specs.declared.Stream.{Stream}
-use Rattle.junction.specs.declared.Count.{Count}
 use Rattle.junction.specs.declared.Junction.{Junction}
-use Rattle.junction.specs.Layout.{streamOf, countOf, countInRange}
+use Rattle.junction.specs.Layout.{designDay, plannedPeriod, streamOf, countOf, countInRange}
 use Rattle.junction_places.specs.Blank.{blank}
 use Rattle.junction_questions.specs.lemmas.Passed.{BodyPassed}
 use Rattle.junction_questions.specs.Questions.{inOrder, lengthRight, inRange, withinLimit, refers, countRefers, bodyVerdict, fieldVerdict}
@@ -28,27 +28,27 @@ use Rattle.junction_places.specs.Places.{streamAt, countAt}
 use Rattle.streams.specs.Kinds.{isCar}
 use Rattle.junction_places.specs.Ranks.{newestRank}
 use Rattle.junction_file.specs.Chosen.{UsableCount, chosen, none-usable}
-use Rattle.junction_file.specs.Reading.{withHeading, withStream, withZone, withCount, withField, reading}
+use Rattle.junction_file.specs.Reading.{withHeading, withStream, withZone, withCount, withField, atEnd, reading}
 use Rattle.junction_file.specs.Taken.{UsedPhase}
 use Rattle.junction_file.specs.TakenFile.{taken}
 use Rattle.junction_file.specs.lemmas.Fields.{used-phase}
 use Rattle.junction_description.specs.lemmas.Described.{Part, Some, part-stream, part-zone, part-count, part-heading, parts}
 use Rattle.junction_description.specs.File.{place, tag, body, ZoneField, CountField, UsableFor, JunctionFile}
-use Rattle.junction_description.specs.lemmas.Holds.{Holds, kind-car, zone-refers, count-refers}
-use Rattle.junction_description.specs.lemmas.Steps.{Passes, begin, next, taken-read, read-taken}
+use Rattle.junction_description.specs.lemmas.Holds.{Holds, stream-there, count-there, kind-car, zone-refers, count-refers}
+use Rattle.junction_description.specs.lemmas.Steps.{Passes, begin, next, taken-read, read-all}
 
 -- what a junction says of its streams and counts, by bytes; streams from 1 on, places from 0 on
 module _ (s : List ℕ) (j : Junction) (streams zones counts : ℕ) (r : Holds s j streams zones counts) where
   phase-at : (n : ℕ) → Between 1 streams n → streamAt j (n - 1) .phase ≡ byteAt (body s n) 1
   unfolding streamOf
   phase-at n w =
-      let there : n - 1 + 1 ≡ n = omega arith in ap Stream.phase (r .stream (n - 1) (omega arith)) ∙ ap (λ k. byteAt (body s k) 1) there
+      let there : n - 1 + 1 ≡ n = omega arith in ap Stream.phase (stream-there s j streams zones counts r (n - 1) (omega arith)) ∙ ap (λ k. byteAt (body s k) 1) there
 
   pub car-at : (n : ℕ) → Between 1 streams n → (isCar (streamAt j (n - 1) .kind) ≡ true) ↔ (byteAt (body s n) 0 ≡ 1)
   unfolding streamOf
   car-at n w =
       let there : n - 1 + 1 ≡ n = omega arith in
-      rw (ap Stream.kind (r .stream (n - 1) (omega arith)), there) (kind-car (body s n))
+      rw (ap Stream.kind (stream-there s j streams zones counts r (n - 1) (omega arith)), there) (kind-car (body s n))
 
   used-at : (p : ℕ) → UsedPhase j p ↔ ((n : ℕ) × Between 1 streams n × (byteAt (body s n) 1 ≡ p))
   used-at p = (
@@ -61,33 +61,55 @@ module _ (s : List ℕ) (j : Junction) (streams zones counts : ℕ) (r : Holds s
   module _ (i : ℕ) (low : i < counts) where
     count-stream : countAt j i .stream ≡ byteAt (body s (streams + zones + i + 1)) 0
     unfolding countOf
-    count-stream = ap Count.stream (r .count i low)
+    count-stream = ap Count.stream (count-there s j streams zones counts r i low)
 
     pub count-day : countAt j i .day ≡ numberAt (body s (streams + zones + i + 1)) 1
     unfolding countOf
-    count-day = ap Count.day (r .count i low)
+    count-day = ap Count.day (count-there s j streams zones counts r i low)
 
     pub count-flow : countAt j i .flow ≡ numberAt (body s (streams + zones + i + 1)) 5
     unfolding countOf
-    count-flow = ap Count.flow (r .count i low)
+    count-flow = ap Count.flow (count-there s j streams zones counts r i low)
+
+    count-period : countAt j i .period ≡ byteAt (body s (streams + zones + i + 1)) 7
+    unfolding countOf
+    count-period = ap Count.period (count-there s j streams zones counts r i low)
 
     flow-ranged : countInRange (body s (streams + zones + i + 1)) ≡ true → Between leastFlow greatestFlow (countAt j i .flow)
     unfolding countInRange numberIn
     flow-ranged ranged = let facts = simp and-eq-true-iff at ranged in rw count-flow (omega (arith, leb-true))
 
+    period-ranged : countInRange (body s (streams + zones + i + 1)) ≡ true → Between leastPeriod greatestPeriod (countAt j i .period)
+    unfolding countInRange byteIn
+    period-ranged ranged = let facts = simp and-eq-true-iff at ranged in rw count-period (omega (arith, leb-true))
+
   -- a usable count of stream n
   pub usable-there : (n i : ℕ) → UsableCount j n i → (i < counts) × UsableFor s n (streams + zones + i + 1)
+  unfolding designDay plannedPeriod
   usable-there n i u =
       let low : i < counts = omega (arith, u .held, r .countsHeld) in
-      (low, record { of = sym (count-stream i low) ∙ u .ofStream; notAfter = omega (arith, count-day i low, u .notAfter, r .day) })
+      let c = u .usable in (
+        low,
+        record {
+          of = sym (count-stream i low) ∙ c .ofStream;
+          notAfter = omega (arith, count-day i low, c .notAfter, r .day);
+          inPeriod = sym (count-period i low) ∙ c .inPeriod ∙ r .period;
+        },
+      )
 
   pub there-usable : (n i : ℕ) (low : i < counts) → countInRange (body s (streams + zones + i + 1)) ≡ true → UsableFor s n (streams + zones + i + 1) → UsableCount j n i
+  unfolding designDay plannedPeriod
   there-usable n i low ranged u =
       record {
         held = omega (arith, r .countsHeld);
-        ofStream = count-stream i low ∙ u .of;
-        notAfter = omega (arith, count-day i low, u .notAfter, r .day);
-        inRange = flow-ranged i low ranged;
+        usable =
+            record {
+              ofStream = count-stream i low ∙ u .of;
+              notAfter = omega (arith, count-day i low, u .notAfter, r .day);
+              inPeriod = count-period i low ∙ u .inPeriod ∙ sym (r .period);
+              period = period-ranged i low ranged;
+              flow = flow-ranged i low ranged;
+            };
       }
 
 -- a file that is taken is what the paper describes
@@ -126,13 +148,14 @@ module _ (s : List ℕ) (v : reading s .verdict ≡ Passed) where
       let end : length s ≤ place s (suc last) = rw (at, add-one last) at (taken-read s v .end) in
       record {
         size = taken-read s v .size;
-        fewStreams = p .fewStreams;
-        fewZones = p .fewZones;
-        fewCounts = p .fewCounts;
+        fewStreams = h .fewStreams;
+        fewZones = h .fewZones;
+        fewCounts = h .fewCounts;
         within = λ i l. p .within i (omega arith);
         ends = rw number (omega arith);
         heading = p .heading;
         headingLong = p .headingLong;
+        headingRanged = p .headingRanged;
         streamFields = p .streamFields;
         zoneFields = p .zoneFields;
         countFields = p .countFields;
@@ -174,8 +197,8 @@ module _ (s : List ℕ) where
         let one = f .heading in
         let fit = f .within 0 (omega arith) in
         let b : BodyPassed 1 (body s 0) blank =
-        record { ordered = refl; long = eq-eqb _ _ (f .headingLong); ranged = refl; limited = refl; referring = refl } in
-        (withHeading (body s 0) blank, rw one at (passing 0 blank begin fit (rw one b)), part-heading s fit one (f .headingLong))
+        record { ordered = refl; long = eq-eqb _ _ (f .headingLong); ranged = f .headingRanged; limited = refl; referring = refl } in
+        (withHeading (body s 0) blank, rw one at (passing 0 blank begin fit (rw one b)), part-heading s fit one (f .headingLong) (f .headingRanged))
 
     -- after the heading a tag from 2 to 4 that is not below the last is in its order
     in-order : (j : Junction) (t : ℕ) → 1 ≤ j .held .last → Between 2 4 t → j .held .last ≤ t → inOrder (j .held .last) t ≡ true
@@ -334,11 +357,22 @@ module _ (s : List ℕ) where
           absurd (true≢false (sym lacks ∙ none-lacks (firstLacking j) (omega (arith, h .streamsHeld))))) in
           simp (known, phases-hold, car-held, all)
 
-    described-taken : reading s .verdict ≡ Passed
-    described-taken =
-        let u = to-counts c (omega arith) in
+    all-fields : Upto s n z c
+    all-fields = to-counts c (omega arith)
+
+    read-through : reading s ≡ atEnd (length s) (all-fields .junction)
+    read-through =
         let number : n + z + c + 1 ≡ 1 + n + z + c = omega arith in
-        read-taken s (f .size) (n + z + c + 1) (u .junction) (u .passes) (rw number (omega (arith, f .ends))) (whole-passes (u .junction) (u .part))
+        read-all s (f .size) (n + z + c + 1) (all-fields .junction) (all-fields .passes) (rw number (omega (arith, f .ends)))
+
+    described-taken : reading s .verdict ≡ Passed
+    unfolding atEnd
+    described-taken = ap (λ r. r .verdict) read-through ∙ whole-passes (all-fields .junction) (all-fields .part)
+
+    -- its junction is made of as many streams, zones and counts
+    pub described-part : Part s (reading s .junction) n z c
+    unfolding atEnd
+    described-part = subst (λ j. Part s j n z c) (sym (ap (λ r. r .junction) read-through)) (all-fields .part)
 
 -- nothing is refused exactly where the file is what the paper describes
 pub taken-exactly : (s : List ℕ) → (reading s .verdict ≡ Passed) ↔ ((streams zones counts : ℕ) × JunctionFile s streams zones counts)

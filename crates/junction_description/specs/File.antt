@@ -1,4 +1,4 @@
--- What a junction file is, field by field (document 01, "The junction file"): one heading, streams, zones, counts.
+-- What a junction file is, field by field (document 01, "The junction file"; document 02, 2026-01 and 2026-04): one heading, streams, zones, counts.
 use Prim.Native.Nat.{ℕ, zero, suc, _+_, _≤_, _<_}
 use mathlib.Core.Bool.{true}
 use mathlib.Core.List.{List}
@@ -7,7 +7,7 @@ use mathlib.Core.Path.{_≡_}
 use lib.ListN.{length}
 use Rattle.laws.specs.Ranges.{Between}
 use Rattle.fields.specs.Bytes.{byteAt, numberAt, fits, fieldEnd, bodyOf}
-use Rattle.junction.specs.Layout.{headingLength, zoneLength, countLength, designDay, streamLengthRight, streamInRange, zoneInRange, countInRange}
+use Rattle.junction.specs.Layout.{headingLength, zoneLength, countLength, headingInRange, streamLengthRight, streamInRange, zoneInRange, countInRange}
 use Rattle.limits.specs.Limits.{mostStreams, mostZones, mostCounts, mostBytes, mostPhases}
 
 -- where a field begins, by its number: the heading has number 0
@@ -45,10 +45,11 @@ pub record CountField (s : List ℕ) (streams i : ℕ) : Type 0 where
   pub existing : Between 1 streams (byteAt (body s i) 0)
   pub car : byteAt (body s (byteAt (body s i) 0)) 0 ≡ 1
 
--- a count of stream n, not after the design day
+-- a count of stream n, not after the design day, in the period that is planned, both of which the heading has
 pub record UsableFor (s : List ℕ) (n i : ℕ) : Type 0 where
   pub of : byteAt (body s i) 0 ≡ n
-  pub notAfter : numberAt (body s i) 1 ≤ designDay (body s 0)
+  pub notAfter : numberAt (body s i) 1 ≤ numberAt (body s 0) 2
+  pub inPeriod : byteAt (body s i) 7 ≡ byteAt (body s 0) 4
 
 -- the flow of car n where the counts are the fields after the one with number first: that of a usable count; no usable count is of a later
 -- day; of those of its day none has a larger flow
@@ -74,10 +75,11 @@ pub record JunctionFile (s : List ℕ) (streams zones counts : ℕ) : Type 0 whe
   -- in tag order
   pub heading : tag s 0 ≡ 1
   pub headingLong : length (body s 0) ≡ headingLength
+  pub headingRanged : headingInRange (body s 0) ≡ true
   pub streamFields : (n : ℕ) → Between 1 streams n → StreamField s n
   pub zoneFields : (n : ℕ) → Between 1 zones n → ZoneField s streams (streams + n)
   pub countFields : (n : ℕ) → Between 1 counts n → CountField s streams (streams + zones + n)
-  -- phases 1 to some 2 or more all used, a car present, each car with a usable count
+  -- phases 1 to some 2 or more all used, a car present, each car with a usable count in the period
   pub last : ℕ
   pub twoOrMore : Between 2 mostPhases last
   pub phases : (p : ℕ) → ((n : ℕ) × Between 1 streams n × (byteAt (body s n) 1 ≡ p)) ↔ Between 1 last p

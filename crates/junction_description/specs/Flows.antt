@@ -1,5 +1,5 @@
--- The flow of a car of a taken junction, by the bytes of its file (document 01, "The junction file"): the count with the greatest count day not
--- after the design day; of equals, the larger flow.
+-- The flow of a car of a taken junction, by the bytes of its file (document 01, "The junction file"; document 02, 2026-04): of the counts of the
+-- period that is planned, the one with the greatest count day not after the design day; of equals, the larger flow.
 use Prim.Native.Nat.{ℕ, _+_, _-_}
 use native.Mathlib.Omega.{arith}
 use mathlib.Core.Bool.{true}

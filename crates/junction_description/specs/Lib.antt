@@ -1,4 +1,5 @@
 pub mod Exactly
 pub mod File
 pub mod Flows
+pub mod OtherPeriods
 pub mod lemmas

@@ -85,7 +85,8 @@ pub fn stream_need(j: Junction, n: usize, cycle: u16) -> u32
     flows::need(junction_places::stream_numbered(j, n), cycle)
 }
 
-// The flow of car stream n in E/h: the count with the greatest count day not after the design day, of equals the larger; 0 without one.
+// The flow of car stream n in E/h: of the counts of the period that is planned, the one with the greatest count day not after the design day, of
+// equals the larger; 0 without one.
 pub fn stream_flow(j: Junction, n: usize) -> u16
     ensures { λ r. ⌜ r ≡ streamFlow j n ⌝ }
 {

@@ -9,11 +9,11 @@ use lib.ListN.{length, length-take, length-drop}
 use lib.Seq.{getD-take, getD-drop, ext-getD}
 use borrow.Author.Tests.{ltb-true, ltb-false, eqb-true, eqb-false}
 use Rattle.laws.specs.Tests.{by-test}
-use Rattle.fields.specs.Bytes.{byteAt, numberAt, fieldEnd, fits, bodyOf, numberIn, byteAt-past, field-long}
+use Rattle.fields.specs.Bytes.{byteAt, numberAt, fieldEnd, fits, bodyOf, numberIn, byteIn, byteAt-past, field-long}
 use Rattle.fields.specs.Verdict.{isRefused}
 use Rattle.fields.specs.declared.Verdict.the-variants.{Passed}
 use Rattle.junction.specs.declared.Junction.{Junction}
-use Rattle.junction.specs.Layout.{countInRange, countOf}
+use Rattle.junction.specs.Layout.{countLength, countInRange, countOf}
 use Rattle.junction_places.specs.Blank.{blank}
 use Rattle.junction_questions.specs.lemmas.Passed.{field-passed}
 use Rattle.junction_questions.specs.Questions.{lengthRight, inRange, refers, bodyVerdict, namedBy, fieldVerdict}
@@ -59,15 +59,16 @@ record SameCount (b c : List ℕ) : Type 0 where
   stream : byteAt b 0 ≡ byteAt c 0
   day : numberAt b 1 ≡ numberAt c 1
   flow : numberAt b 5 ≡ numberAt c 5
+  period : byteAt b 7 ≡ byteAt c 7
 
 count-verdict-same : (b c : List ℕ) (at : ℕ) (j : Junction) → SameCount b c
     → bodyVerdict 4 b at (j .held) (namedBy j b 0) (namedBy j b 1) ≡ bodyVerdict 4 c at (j .held) (namedBy j c 0) (namedBy j c 1)
-unfolding bodyVerdict lengthRight inRange countInRange numberIn refers
-count-verdict-same b c at j e = rw (e .long, e .stream, e .flow)
+unfolding bodyVerdict lengthRight inRange countInRange numberIn byteIn refers
+count-verdict-same b c at j e = rw (e .long, e .stream, e .flow, e .period)
 
 with-count-same : (b c : List ℕ) (j : Junction) → SameCount b c → withField 4 b j ≡ withField 4 c j
 unfolding withField withCount countOf
-with-count-same b c j e = rw (e .stream, e .day, e .flow)
+with-count-same b c j e = rw (e .stream, e .day, e .flow, e .period)
 
 -- two files agree from a place on, but for the file days
 record Alike (fuel : ℕ) (s t : List ℕ) (at : ℕ) : Type 0 where
@@ -121,6 +122,7 @@ module _ (fuel : ℕ) (s t : List ℕ) (at : ℕ) (a : Alike (suc fuel) s t at) 
         stream = body-same 0 (λ e. omega arith);
         day = rw (body-same 1 (λ e. omega arith), body-same 2 (λ e. omega arith));
         flow = rw (body-same 5 (λ e. omega arith), body-same 6 (λ e. omega arith));
+        period = body-same 7 (λ e. omega arith);
       }
 
   same-body : (byteAt s at ≡ 4 → ⊥) → bodyOf s at ≡ bodyOf t at
@@ -141,7 +143,7 @@ module _ (fuel : ℕ) (s t : List ℕ) (at : ℕ) (a : Alike (suc fuel) s t at) 
   unfolding fieldEnd lengthRight
   count-ends j p e =
       let passed = field-passed s at j p .1 in
-      let seven = eqb-true (length (bodyOf s at)) 7 (rw e at (passed .long)) in
+      let long = eqb-true (length (bodyOf s at)) countLength (rw e at (passed .long)) in
       omega (arith, body-short s at)
 
   -- and after it the files agree too

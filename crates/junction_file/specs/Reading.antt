@@ -10,7 +10,7 @@ use Rattle.fields.specs.declared.Verdict.{Verdict}
 use Rattle.fields.specs.declared.Verdict.the-variants.{Refused}
 use Rattle.junction.specs.declared.Junction.{Junction}
 use Rattle.junction.specs.declared.Reading.{Reading}
-use Rattle.junction.specs.Layout.{designDay, streamOf, zoneOf, countOf}
+use Rattle.junction.specs.Layout.{designDay, plannedPeriod, streamOf, zoneOf, countOf}
 use Rattle.junction_places.specs.Blank.{blank}
 use Rattle.junction_questions.specs.Questions.{byTag, fieldVerdict, wholeVerdict}
 use Rattle.limits.specs.Limits.{mostBytes}
@@ -20,6 +20,7 @@ unfoldable pub withHeading : List ℕ → Junction → Junction
 withHeading b j =
     record {
       day = designDay b;
+      period = plannedPeriod b;
       held = record { last = 1; streams = j .held .streams; zones = j .held .zones; counts = j .held .counts };
       streams = j .streams;
       zones = j .zones;
@@ -30,6 +31,7 @@ unfoldable pub withStream : List ℕ → Junction → Junction
 withStream b j =
     record {
       day = j .day;
+      period = j .period;
       held = record { last = 2; streams = j .held .streams + 1; zones = j .held .zones; counts = j .held .counts };
       streams = set (j .streams) (j .held .streams) (streamOf b);
       zones = j .zones;
@@ -40,6 +42,7 @@ unfoldable pub withZone : List ℕ → Junction → Junction
 withZone b j =
     record {
       day = j .day;
+      period = j .period;
       held = record { last = 3; streams = j .held .streams; zones = j .held .zones + 1; counts = j .held .counts };
       streams = j .streams;
       zones = set (j .zones) (j .held .zones) (zoneOf b);
@@ -50,6 +53,7 @@ unfoldable pub withCount : List ℕ → Junction → Junction
 withCount b j =
     record {
       day = j .day;
+      period = j .period;
       held = record { last = 4; streams = j .held .streams; zones = j .held .zones; counts = j .held .counts + 1 };
       streams = j .streams;
       zones = j .zones;

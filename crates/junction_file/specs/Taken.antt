@@ -7,7 +7,8 @@ use mathlib.Core.Path.{_≡_}
 use lib.ListN.{length}
 use Rattle.laws.specs.Ranges.{Between}
 use Rattle.counts.specs.Newest.{rankFlow}
-use Rattle.limits.specs.Limits.{leastFlow, greatestFlow, mostPhases}
+use Rattle.counts.specs.declared.Count.{Count}
+use Rattle.limits.specs.Limits.{leastFlow, greatestFlow, leastPeriod, greatestPeriod, mostPhases}
 use Rattle.streams.specs.declared.CarFigures.{CarFigures}
 use Rattle.streams.specs.declared.TramFigures.{TramFigures}
 use Rattle.streams.specs.declared.PedestrianFigures.{PedestrianFigures}
@@ -15,7 +16,6 @@ use Rattle.streams.specs.declared.IslandFigures.{IslandFigures}
 use Rattle.streams.specs.declared.Kind.{Kind}
 use Rattle.streams.specs.declared.Kind.the-variants.{Car, Tram, Pedestrian, Cyclist, Island}
 use Rattle.streams.specs.declared.Stream.{Stream}
-use Rattle.junction.specs.declared.Count.{Count}
 use Rattle.junction.specs.declared.Junction.{Junction}
 use Rattle.junction.specs.declared.Side.{Side}
 use Rattle.junction.specs.declared.Zone.{Zone}
@@ -75,13 +75,14 @@ pub record ZoneRight (j : Junction) (z : Zone) : Type 0 where
   pub below : z .a .stream < z .b .stream
   pub apart : streamNumbered j (z .a .stream) .phase ≡ streamNumbered j (z .b .stream) .phase → ⊥
 
--- a count is of an existing car, with a flow in range
+-- a count is of an existing car, with a flow and a period in range
 pub record CountRight (j : Junction) (c : Count) : Type 0 where
   pub existing : Between 1 (j .held .streams) (c .stream)
   pub car : isCar (streamNumbered j (c .stream) .kind) ≡ true
   pub flow : Between leastFlow greatestFlow (c .flow)
+  pub period : Between leastPeriod greatestPeriod (c .period)
 
--- the fields that pass questions 2 to 7: how many there are of each sort, and that each is right
+-- the fields that pass questions 2 to 7: how many there are of each sort, and that each is right; the heading comes before any stream
 pub record FieldsRight (j : Junction) : Type 0 where
   pub streamPlaces : length (j .streams) ≡ mostStreams
   pub zonePlaces : length (j .zones) ≡ mostZones
@@ -89,6 +90,8 @@ pub record FieldsRight (j : Junction) : Type 0 where
   pub fewStreams : j .held .streams ≤ mostStreams
   pub fewZones : j .held .zones ≤ mostZones
   pub fewCounts : j .held .counts ≤ mostCounts
+  pub headed : 0 < j .held .streams → 0 < j .held .last
+  pub period : 0 < j .held .last → Between leastPeriod greatestPeriod (j .period)
   pub streams : (i : ℕ) → i < j .held .streams → StreamInRange (streamAt j i)
   pub zones : (i : ℕ) → i < j .held .zones → ZoneRight j (zoneAt j i)
   pub counts : (i : ℕ) → i < j .held .counts → CountRight j (countAt j i)
@@ -111,13 +114,14 @@ pub record HasCar (j : Junction) : Type 0 where
   pub held : place < j .held .streams
   pub car : isCar (streamAt j place .kind) ≡ true
 
--- a usable count gives the stream with a number its flow
+-- a usable count in the period gives the stream with a number its flow
 pub record HasFlow (j : Junction) (n : ℕ) : Type 0 where
   pub counted : 0 < newestRank j n
   pub flow : Between leastFlow greatestFlow (rankFlow (newestRank j n))
 
 -- a junction that is taken
 pub record Taken (j : Junction) : Type 0 where
+  pub period : Between leastPeriod greatestPeriod (j .period)
   pub fields : FieldsRight j
   pub phases : PhasesRight j
   pub car : HasCar j

@@ -73,6 +73,7 @@ fn read_fields(file: &[u8]) -> Reading
         at = end;
         if tag == 1 {
             j.day = junction::design_day(body);
+            j.period = junction::planned_period(body);
             j.held.last = 1;
             continue;
         }
@@ -125,6 +126,7 @@ fn blank() -> Junction
     let count = junction_places::no_count();
     Junction {
         day: 0,
+        period: 0,
         held: Held {
             last: 0,
             streams: 0,

@@ -1,9 +1,9 @@
 -- The junction before the first field of its file.
 use lib.ListN.{replicate}
 use mathlib.Core.Bool.{false}
+use Rattle.counts.specs.declared.Count.{Count}
 use Rattle.streams.specs.declared.Kind.the-variants.{Car}
 use Rattle.streams.specs.declared.Stream.{Stream}
-use Rattle.junction.specs.declared.Count.{Count}
 use Rattle.junction.specs.declared.Junction.{Junction}
 use Rattle.junction.specs.declared.Side.{Side}
 use Rattle.junction.specs.declared.Zone.{Zone}
@@ -23,12 +23,13 @@ abbrev pub noZone : Zone
 noZone = record { a = noSide; b = noSide }
 
 abbrev pub noCount : Count
-noCount = record { stream = 0; day = 0; flow = 0 }
+noCount = record { stream = 0; day = 0; flow = 0; period = 0 }
 
 abbrev pub blank : Junction
 blank =
     record {
       day = 0;
+      period = 0;
       held = record { last = 0; streams = 0; zones = 0; counts = 0 };
       streams = replicate mostStreams noStream;
       zones = replicate mostZones noZone;

@@ -6,8 +6,8 @@ use mathlib.Core.Path.{_≡_}
 use lib.Dec.{leb, ltb, eqb}
 use lib.ListN.{getD}
 use borrow.Author.Tests.{ne-eqb}
+use Rattle.counts.specs.declared.Count.{Count}
 use Rattle.streams.specs.declared.Stream.{Stream}
-use Rattle.junction.specs.declared.Count.{Count}
 use Rattle.junction.specs.declared.Junction.{Junction}
 use Rattle.junction.specs.declared.Zone.{Zone}
 use Rattle.limits.specs.Limits.{mostStreams, mostZones, mostCounts}

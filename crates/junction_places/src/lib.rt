@@ -5,7 +5,8 @@ ghost use lib.ListN.{getD};
 ghost use Rattle.junction_places.specs.Blank.{noStream, noCount, noZone};
 ghost use Rattle.junction_places.specs.Places.{streamAt, zoneAt, streamNumbered, numbered as numberedIn, exists as existsIn};
 ghost use Rattle.junction_places.specs.Ranks.{newestRank};
-use junction::Count;
+use counts::Count;
+use counts::Wanted;
 use junction::Junction;
 use junction::Side;
 use junction::Zone;
@@ -79,6 +80,7 @@ pub fn no_count() -> Count
         stream: 0,
         day: 0,
         flow: 0,
+        period: 0,
     }
 }
 
@@ -119,7 +121,12 @@ pub fn newest_ranks(j: Junction) -> [u32; 256]
         };
         let n = c.stream as usize;
         let best = ranks[n];
-        ranks[n] = counts::newer(best, n, j.day, c.stream, c.day, c.flow);
+        let wanted = Wanted {
+            stream: n,
+            day: j.day,
+            period: j.period as usize,
+        };
+        ranks[n] = counts::newer(best, wanted, c);
         i += 1;
     }
     ranks
@@ -138,7 +145,12 @@ pub fn newest_rank(j: Junction, n: usize) -> u32
         } else {
             no_count()
         };
-        best = counts::newer(best, n, j.day, c.stream, c.day, c.flow);
+        let wanted = Wanted {
+            stream: n,
+            day: j.day,
+            period: j.period as usize,
+        };
+        best = counts::newer(best, wanted, c);
         i += 1;
     }
     best

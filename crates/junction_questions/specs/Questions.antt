@@ -12,7 +12,7 @@ use Rattle.fields.specs.declared.Verdict.the-variants.{Passed}
 use Rattle.streams.specs.declared.Stream.{Stream}
 use Rattle.junction.specs.declared.Held.{Held}
 use Rattle.junction.specs.declared.Junction.{Junction}
-use Rattle.junction.specs.Layout.{headingLength, zoneLength, countLength, streamLengthRight, streamInRange, zoneInRange, countInRange}
+use Rattle.junction.specs.Layout.{headingLength, zoneLength, countLength, headingInRange, streamLengthRight, streamInRange, zoneInRange, countInRange}
 use Rattle.limits.specs.Limits.{mostStreams, mostZones, mostCounts}
 use Rattle.streams.specs.Kinds.{isCar}
 use Rattle.junction_places.specs.Places.{streamAt, streamNumbered, numbered}
@@ -33,7 +33,7 @@ lengthRight tag b =
 
 -- 5: is each number in range?
 unfoldable pub inRange : ℕ → List ℕ → Bool
-inRange tag b = byTag tag true (streamInRange b) (zoneInRange b) (countInRange b)
+inRange tag b = byTag tag (headingInRange b) (streamInRange b) (zoneInRange b) (countInRange b)
 
 -- 6: is the count of its sort within limit?
 unfoldable pub withinLimit : ℕ → Held → Bool
@@ -104,15 +104,15 @@ carAt j i = isCar (streamAt j i .kind)
 unfoldable pub firstCar : Junction → ℕ
 firstCar j = firstBelow (carAt j) (j .held .streams) 0
 
--- a car without a usable count, by its place from 0
+-- a car without a usable count in the period that is planned, by its place from 0
 unfoldable pub lacksCount : Junction → ℕ → Bool
 lacksCount j i = carAt j i && eqb (newestRank j (i + 1)) 0
 
--- the first place of a car without a usable count; the number of streams where there is none
+-- the first place of a car without a usable count in the period; the number of streams where there is none
 unfoldable pub firstLacking : Junction → ℕ
 firstLacking j = firstBelow (lacksCount j) (j .held .streams) 0
 
--- 9, place the stream: has each car a usable count?
+-- 9, place the stream: has each car a usable count in the period?
 unfoldable pub countsVerdict : Junction → Verdict
 countsVerdict j = ask (leb (j .held .streams) (firstLacking j)) 9 (firstLacking j + 1) Passed
 

@@ -51,7 +51,7 @@ fn length_right(tag: u8, b: &[u8]) -> bool
     ensures { λ r. ⌜ r ≡ lengthRight tag (now (b .entry)) ⌝ }
 {
     if tag == 1 {
-        return b.len() == 4;
+        return b.len() == 5;
     }
     if tag == 2 {
         return junction::stream_length_right(b);
@@ -59,14 +59,14 @@ fn length_right(tag: u8, b: &[u8]) -> bool
     if tag == 3 {
         return b.len() == 10;
     }
-    b.len() == 7
+    b.len() == 8
 }
 
 fn in_range(tag: u8, b: &[u8]) -> bool
     ensures { λ r. ⌜ r ≡ inRange tag (now (b .entry)) ⌝ }
 {
     if tag == 1 {
-        return true;
+        return junction::heading_in_range(b);
     }
     if tag == 2 {
         return junction::stream_in_range(b);
@@ -198,7 +198,7 @@ fn first_car(n: usize, streams: [Stream; MOST_STREAMS]) -> usize
     i
 }
 
-// The first place of a car without a usable count. A place past the numbers of one byte, which no file has, asks the counts again.
+// The first place of a car without a usable count in the period. A place past the numbers of one byte, which no file has, asks the counts again.
 fn first_lacking(j: Junction) -> usize
     ensures { λ r. ⌜ r ≡ firstLacking j ⌝ }
 {

@@ -60,3 +60,11 @@ pub largest-same : (f g : ℕ → ℕ) (n : ℕ) → ((i : ℕ) → i < n → f 
 unfolding largestOf
 largest-same f g zero same = refl
 largest-same f g (suc n) same = ap₂ max (largest-same f g n (λ i low. same i (omega arith))) (same n (omega arith))
+
+-- where each number but 0 of a sequence is also one of another, the largest of the one is at most that of the other
+pub largest-among : (f g : ℕ → ℕ) (n m : ℕ) → ((i : ℕ) → i < n → 0 < f i → (k : ℕ) × (k < m) × (g k ≡ f i)) → largestOf f n ≤ largestOf g m
+largest-among f g n m among =
+    largest-at-most f n (largestOf g m) .1
+    (λ i low. ⊎-elim (λ (none : f i ≡ 0). omega arith)
+    (λ (some : 0 < f i). let found = among i low some in le-trans (le-of-eq (sym (found .2))) (largest-bounds g m (found .0) (found .1)))
+    (eq-zero-or-pos (f i)))

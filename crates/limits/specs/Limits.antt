@@ -1,4 +1,4 @@
--- The limits of junctions and plans (document 01, "The junction file" and "Judging a plan").
+-- The limits of junctions and plans (document 01, "The junction file" and "Judging a plan"; document 02).
 use Prim.Native.Nat.{ℕ}
 
 -- a junction file has at most so many bytes, streams, zones and counts
@@ -31,3 +31,10 @@ leastFlow = 1
 
 abbrev pub greatestFlow : ℕ
 greatestFlow = 9999
+
+-- a period of the day, in a heading and in a count (document 02, 2026-04)
+abbrev pub leastPeriod : ℕ
+leastPeriod = 1
+
+abbrev pub greatestPeriod : ℕ
+greatestPeriod = 4

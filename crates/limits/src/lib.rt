@@ -1,4 +1,4 @@
-// The limits of junctions and plans (document 01, "The junction file" and "Judging a plan"), as specs/Limits.antt has them.
+// The limits of junctions and plans (document 01, "The junction file" and "Judging a plan"; document 02), as specs/Limits.antt has them.
 
 // A junction file has at most so many bytes, streams, zones and counts.
 pub const MOST_BYTES: usize = 16384;
@@ -21,3 +21,8 @@ pub const NO_CYCLE: u16 = 181;
 pub const LEAST_FLOW: u16 = 1;
 
 pub const GREATEST_FLOW: u16 = 9999;
+
+// A period of the day, in a heading and in a count (document 02, 2026-04).
+pub const LEAST_PERIOD: u8 = 1;
+
+pub const GREATEST_PERIOD: u8 = 4;

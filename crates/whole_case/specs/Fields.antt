@@ -2,9 +2,13 @@
 use Prim.Native.Nat.{ℕ, _/_, _%_}
 use mathlib.Core.List.{List, [], _∷_}
 
--- junction number 7, design day 9,000
+-- junction number 7, design day 9,000, with a period
+unfoldable pub headingFor : ℕ → List ℕ
+headingFor period = 1 ∷ 0 ∷ 5 ∷ 0 ∷ 7 ∷ 35 ∷ 40 ∷ period ∷ []
+
 unfoldable pub heading : List ℕ
-heading = 1 ∷ 0 ∷ 4 ∷ 0 ∷ 7 ∷ 35 ∷ 40 ∷ []
+unfolding headingFor
+heading = headingFor 1
 
 -- a car of phase 1 with an amber: standing, straight, width 350, one row, level, medium, no shares
 unfoldable pub car : ℕ → List ℕ
@@ -40,9 +44,13 @@ unfoldable pub zone : ℕ → ℕ → List ℕ
 unfolding zoneBy
 zone a b = zoneBy a b 140 75 70 0
 
--- a count of stream 1, day 8,960 and so many, file day 0, with a flow
+-- a count of stream 1, day 8,960 and so many, file day 0, with a flow and a period
+unfoldable pub countFor : ℕ → ℕ → ℕ → List ℕ
+countFor day flow period = 4 ∷ 0 ∷ 8 ∷ 1 ∷ 35 ∷ day ∷ 0 ∷ 0 ∷ flow / 256 ∷ flow % 256 ∷ period ∷ []
+
 unfoldable pub count : ℕ → ℕ → List ℕ
-count day flow = 4 ∷ 0 ∷ 7 ∷ 1 ∷ 35 ∷ day ∷ 0 ∷ 0 ∷ flow / 256 ∷ flow % 256 ∷ []
+unfolding countFor
+count day flow = countFor day flow 1
 
 -- a plan's field 11 with its cycle, and field 12 of a stream with start and length, all below 256
 unfoldable pub cycle11 : ℕ → List ℕ

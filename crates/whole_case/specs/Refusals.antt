@@ -10,7 +10,7 @@ use Rattle.plan_judge.specs.Judgement.{judgement}
 use Rattle.cycle_search.specs.Planning.{firstTried}
 use Rattle.junction_file.specs.Reading.{reading}
 use Rattle.planner.specs.WorkingOut.{worked}
-use Rattle.whole_case.specs.Fields.{heading, car, pedestrian, island, ofKind, cyclist, zone, count, cycle11, green12}
+use Rattle.whole_case.specs.Fields.{headingFor, heading, car, pedestrian, island, ofKind, cyclist, zone, countFor, count, cycle11, green12}
 use Rattle.whole_case.specs.WholeCase.{WC, WI, WP, WT, planFrom, toJudge, toPlan}
 
 record Case : Type 0 where
@@ -33,30 +33,36 @@ unfolding cyclists
 seventeenth field = heading ++ car 3 ++ pedestrian ++ cyclists 14 ++ field
 
 table : List Case
-unfolding case seventeenth WI WT heading car pedestrian island ofKind cyclist zone count cycle11 green12
+unfolding case seventeenth WI WT headingFor heading car pedestrian island ofKind cyclist zone countFor count cycle11 green12
 table =
     -- the last byte is cut off
-    case (take 57 WC) WP (Refused 2 48) ∷
+    case (take 59 WC) WP (Refused 2 49) ∷
     -- a second heading
-    case (heading ++ heading) WP (Refused 3 7) ∷
-    -- a heading of 3 bytes
-    case (1 ∷ 0 ∷ 3 ∷ 0 ∷ 7 ∷ 35 ∷ []) WP (Refused 4 0) ∷
+    case (heading ++ heading) WP (Refused 3 8) ∷
+    -- a heading of 4 bytes and a count of 7, as before 2026-04
+    case (1 ∷ 0 ∷ 4 ∷ 0 ∷ 7 ∷ 35 ∷ 40 ∷ []) WP (Refused 4 0) ∷
+    case (heading ++ car 3 ++ pedestrian ++ zone 1 2 ++ 4 ∷ 0 ∷ 7 ∷ 1 ∷ 35 ∷ 40 ∷ 0 ∷ 0 ∷ 2 ∷ 88 ∷ []) WP (Refused 4 49) ∷
     -- kind 5 with the length of kind 3; kind 6 is unknown, whatever its length
-    case (heading ++ car 3 ++ ofKind 5) WP (Refused 4 23) ∷
-    case (heading ++ car 3 ++ ofKind 6) WP (Refused 5 23) ∷
+    case (heading ++ car 3 ++ ofKind 5) WP (Refused 4 24) ∷
+    case (heading ++ car 3 ++ ofKind 6) WP (Refused 5 24) ∷
     -- a packet of 22, between two multiples of 5
-    case (heading ++ car 3 ++ island 60 20 22) WP (Refused 5 23) ∷
+    case (heading ++ car 3 ++ island 60 20 22) WP (Refused 5 24) ∷
     -- amber 2
-    case (heading ++ car 2 ++ pedestrian ++ zone 1 2 ++ count 40 600) WP (Refused 5 7) ∷
+    case (heading ++ car 2 ++ pedestrian ++ zone 1 2 ++ count 40 600) WP (Refused 5 8) ∷
+    -- period 0 in the heading, period 5 in the count
+    case (headingFor 0 ++ car 3 ++ pedestrian ++ zone 1 2 ++ count 40 600) WP (Refused 5 0) ∷
+    case (heading ++ car 3 ++ pedestrian ++ zone 1 2 ++ countFor 40 600 5) WP (Refused 5 49) ∷
     -- a seventeenth stream; and one with a number out of range, which comes first
-    case (seventeenth (cyclist 1 0)) WP (Refused 6 119) ∷
-    case (seventeenth (cyclist 1 7)) WP (Refused 5 119) ∷
+    case (seventeenth (cyclist 1 0)) WP (Refused 6 120) ∷
+    case (seventeenth (cyclist 1 7)) WP (Refused 5 120) ∷
     -- a zone with b before a
-    case (heading ++ car 3 ++ pedestrian ++ zone 2 1 ++ count 40 600) WP (Refused 7 35) ∷
+    case (heading ++ car 3 ++ pedestrian ++ zone 2 1 ++ count 40 600) WP (Refused 7 36) ∷
     -- an empty file
     case [] WP (Refused 8 0) ∷
     -- a count of the day after the design day
     case (heading ++ car 3 ++ pedestrian ++ zone 1 2 ++ count 41 600) WP (Refused 9 1) ∷
+    -- a count of another period than the one that is planned
+    case (headingFor 2 ++ car 3 ++ pedestrian ++ zone 1 2 ++ count 40 600) WP (Refused 9 1) ∷
     -- a plan cut to 6 bytes, to 5 bytes, and with a byte after it
     case WC (take 6 WP) (Refused 11 5) ∷
     case WC (take 5 WP) (Refused 12 5) ∷
@@ -112,7 +118,7 @@ farApart =
     carOf phase = 2 ∷ 0 ∷ 13 ∷ 1 ∷ phase ∷ 3 ∷ 0 ∷ 0 ∷ 0 ∷ 1 ∷ 94 ∷ 1 ∷ 10 ∷ 2 ∷ 0 ∷ 0 ∷ []
 
     countOf : ℕ → List ℕ
-    countOf stream = 4 ∷ 0 ∷ 7 ∷ stream ∷ 35 ∷ 40 ∷ 0 ∷ 0 ∷ 2 ∷ 88 ∷ []
+    countOf stream = 4 ∷ 0 ∷ 8 ∷ stream ∷ 35 ∷ 40 ∷ 0 ∷ 0 ∷ 2 ∷ 88 ∷ 1 ∷ []
 
 far-first : firstTried (reading farApart .junction) ≡ 70
 unfolding farApart toPlan

@@ -10,7 +10,7 @@ use Rattle.fields.specs.Bytes.{byteAt, numberAt, fieldEnd, fits, bodyOf, byteIn
 use Rattle.fields.specs.Verdict.{firstFailing, askEach}
 use Rattle.fields.specs.declared.Verdict.the-variants.{Passed, Refused}
 use Rattle.counts.specs.Newest.{usable, rank, rankFlow}
-use Rattle.junction.specs.Layout.{designDay, radiusInRange, sharesInRange, carInRange, carOf, tramInRange, tramOf}
+use Rattle.junction.specs.Layout.{designDay, plannedPeriod, headingInRange, radiusInRange, sharesInRange, carInRange, carOf, tramInRange, tramOf}
 use Rattle.junction.specs.Layout.{pedestrianInRange, walkOf, pedestrianOf, cyclistInRange, cyclistOf, islandInRange, islandOf, streamLengthRight, streamInRange, kindOf, streamOf, zoneInRange, zoneOf, countInRange, countOf}
 use Rattle.junction_questions.specs.Questions.{inOrder, lengthRight, inRange, withinLimit}
 use Rattle.junction_places.specs.Places.{streamAt, countAt, zoneAt, streamNumbered, zoneNumbered}
@@ -29,9 +29,9 @@ use Rattle.junction_phases.specs.JunctionPhases.{isIn, carIn, hasCars, phaseRat
 use Rattle.cycle_search.specs.Planning.{ratios, firstTried, phaseGreen, planAt, outcome, works, cycleFrom, cycle, found}
 use Rattle.planner.specs.WorkingOut.{calculation, junctionVerdict, junctionWorked, junctionBuffer, worked, buffer}
 use Rattle.worked_values.specs.Computed.{toTimes, toFlows, toPhases}
-use Rattle.whole_case.specs.Fields.{heading, car, pedestrian, island, stopTram, zoneBy, zone, count, cycle11, green12}
+use Rattle.whole_case.specs.Fields.{headingFor, heading, car, pedestrian, island, stopTram, zoneBy, zone, countFor, count, cycle11, green12}
 
--- WC: the junction file with design day 9,000, the car, the pedestrian, their zone, and 600 E/h counted on the design day
+-- WC: the junction file with design day 9,000, the car, the pedestrian, their zone, and 600 E/h counted on the design day, all in period 1
 unfoldable pub WC : List ℕ
 unfolding heading car pedestrian zone count
 WC = heading ++ car 3 ++ pedestrian ++ zone 1 2 ++ count 40 600
@@ -46,11 +46,11 @@ unfolding planFrom
 WP = planFrom 40
 
 -- byte for byte; the plan's bytes are those that document 01 prints
-wc-bytes : WC ≡ 1 ∷ 0 ∷ 4 ∷ 0 ∷ 7 ∷ 35 ∷ 40 ∷
+wc-bytes : WC ≡ 1 ∷ 0 ∷ 5 ∷ 0 ∷ 7 ∷ 35 ∷ 40 ∷ 1 ∷
     2 ∷ 0 ∷ 13 ∷ 1 ∷ 1 ∷ 3 ∷ 0 ∷ 0 ∷ 0 ∷ 1 ∷ 94 ∷ 1 ∷ 10 ∷ 2 ∷ 0 ∷ 0 ∷
     2 ∷ 0 ∷ 9 ∷ 3 ∷ 2 ∷ 12 ∷ 0 ∷ 70 ∷ 0 ∷ 200 ∷ 0 ∷ 0 ∷
     3 ∷ 0 ∷ 10 ∷ 1 ∷ 2 ∷ 0 ∷ 140 ∷ 0 ∷ 75 ∷ 0 ∷ 70 ∷ 0 ∷ 0 ∷
-    4 ∷ 0 ∷ 7 ∷ 1 ∷ 35 ∷ 40 ∷ 0 ∷ 0 ∷ 2 ∷ 88 ∷ []
+    4 ∷ 0 ∷ 8 ∷ 1 ∷ 35 ∷ 40 ∷ 0 ∷ 0 ∷ 2 ∷ 88 ∷ 1 ∷ []
 unfolding WC
 wc-bytes = refl
 
@@ -64,7 +64,7 @@ unfolding WC WP planFrom reading readFrom atEnd readField afterField withField w
     fieldVerdict bodyVerdict inOrder lengthRight inRange withinLimit refers zoneRefers carRefers numbered exists
     streamNumbered streamAt countAt zoneAt wholeVerdict whole countsVerdict firstLacking lacksCount newestRank rankAt
     firstCar carAt phasesRight phaseFollows phaseUsed firstInPhase inPhase largestOf firstBelow firstOf rank usable
-    designDay radiusInRange sharesInRange carInRange carOf tramInRange tramOf pedestrianInRange walkOf pedestrianOf cyclistInRange cyclistOf
+    designDay plannedPeriod headingInRange radiusInRange sharesInRange carInRange carOf tramInRange tramOf pedestrianInRange walkOf pedestrianOf cyclistInRange cyclistOf
     islandInRange islandOf streamLengthRight streamInRange kindOf streamOf zoneInRange zoneOf countInRange countOf
     byteAt numberAt fieldEnd fits bodyOf byteIn numberIn
 toRead = tt
@@ -175,3 +175,35 @@ there-alone = (refl, refl)
 back-alone : (pairEntry (reading (withDistances 0 75 70 999) .junction) 2 1 ≡ 4) × (pairEntry (reading (withDistances 0 75 70 999) .junction) 1 2 ≡ 4)
 unfolding withDistances toJudge
 back-alone = (refl, refl)
+
+-- the whole case with 600 E/h counted in period 1 and another flow in period 2, both on the design day (document 02, 2026-04), planned in a
+-- period
+unfoldable pub twoPeriods : ℕ → ℕ → List ℕ
+unfolding headingFor car pedestrian zone countFor
+twoPeriods period flow = headingFor period ++ car 3 ++ pedestrian ++ zone 1 2 ++ countFor 40 600 1 ++ countFor 40 flow 2
+
+-- in period 1 the plan is that of the whole case; in period 2, with 900 E/h, Y is 4,676 and T0 57
+first-planned : worked (twoPeriods 1 900) 21 ≡ record { verdict = Passed; cycle = 50; tried = 1; size = 21 }
+unfolding twoPeriods toPlan
+first-planned = refl
+
+first-left : buffer (twoPeriods 1 900) (replicate 21 255) ≡ WP
+unfolding twoPeriods toPlan
+first-left = refl
+
+second-planned : worked (twoPeriods 2 900) 21 ≡ record { verdict = Passed; cycle = 57; tried = 1; size = 21 }
+unfolding twoPeriods toPlan
+second-planned = refl
+
+second-left : buffer (twoPeriods 2 900) (replicate 21 255) ≡ cycle11 57 ++ green12 1 0 42 ++ green12 2 47 6
+unfolding twoPeriods cycle11 green12 toPlan
+second-left = refl
+
+-- the whole case's plan has no room for 1,400 E/h, in whose period alone it is refused
+first-accepted : judgement (twoPeriods 1 1400) WP ≡ Passed
+unfolding twoPeriods toJudge
+first-accepted = refl
+
+second-refused : judgement (twoPeriods 2 1400) WP ≡ Refused 16 1
+unfolding twoPeriods toJudge
+second-refused = refl

@@ -1,10 +1,10 @@
--- A value for every constant of the annex, worked by hand from its formulas, and document 01's limits, in one table with one proof over it. Where a
--- constant could be a little more or less, the values stand on both sides of a whole second, or of a whole number.
+-- A value for every constant of the annex, worked by hand from its formulas, and the limits of documents 01 and 02, in one table with one proof over
+-- it. Where a constant could be a little more or less, the values stand on both sides of a whole second, or of a whole number.
 use Prim.Native.Nat.{ℕ}
 use mathlib.Core.Bool.{Bool, true, false}
 use mathlib.Core.List.{List, [], _∷_, map}
 use mathlib.Core.Path.{_≡_, refl}
-use Rattle.limits.specs.Limits.{mostBytes, mostStreams, mostZones, mostCounts, mostPhases, mostSeconds, leastFlow, greatestFlow}
+use Rattle.limits.specs.Limits.{mostBytes, mostStreams, mostZones, mostCounts, mostPhases, mostSeconds, leastFlow, greatestFlow, leastPeriod, greatestPeriod}
 use Rattle.streams.specs.declared.Kind.{Kind}
 use Rattle.streams.specs.declared.Kind.the-variants.{Car, Tram, Pedestrian, Cyclist, Island}
 use Rattle.streams.specs.declared.Stream.{Stream}
@@ -174,9 +174,9 @@ values =
     -- (36): 17 + 1 - 1, 5 - 1, and the need; starts after 17 + 5 and 22 + 4 + 4
     (greenAt three (sharing three 38) 0 is 17) ∷ (greenAt three (sharing three 38) 1 is 4) ∷ (greenAt three (sharing three 38) 2 is 6) ∷
     (startAt three (sharing three 38) 1 is 22) ∷ (startAt three (sharing three 38) 2 is 30) ∷
-    -- document 01's limits: bytes, streams, zones and counts of a junction file; phases; the longest cycle; a count's flow
+    -- the limits: bytes, streams, zones and counts of a junction file; phases; the longest cycle; a count's flow; a period (document 02, 2026-04)
     (mostBytes is 16384) ∷ (mostStreams is 16) ∷ (mostZones is 64) ∷ (mostCounts is 128) ∷ (mostPhases is 6) ∷ (mostSeconds is 180) ∷
-    (leastFlow is 1) ∷ (greatestFlow is 9999) ∷
+    (leastFlow is 1) ∷ (greatestFlow is 9999) ∷ (leastPeriod is 1) ∷ (greatestPeriod is 4) ∷
     []
 
 -- each value is the one worked by hand

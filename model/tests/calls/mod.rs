@@ -58,7 +58,7 @@ impl Lent {
 
 /// Bytes up to this length of the memory.
 fn neighbours(r: &mut Random, memory: &mut Vec<u8>, length: usize) {
-    const COUNT: [u8; 10] = [4, 0, 7, 1, 0, 0, 0, 0, 2, 0x58];
+    const COUNT: [u8; 11] = [4, 0, 8, 1, 0, 0, 0, 0, 2, 0x58, 1];
     const ZONE: [u8; 13] = [3, 0, 10, 1, 2, 0, 0x8c, 0, 0x4b, 0, 0x46, 0, 0];
     const CYCLIST: [u8; 6] = [2, 0, 3, 4, 1, 0];
     const GREEN: [u8; 8] = [0x12, 0, 5, 2, 0, 0, 0, 0x23];
@@ -117,11 +117,17 @@ pub fn flow_ratio(junction: &Lent, stream: usize) -> Figure {
 }
 
 /// Other records stand before and after the list, which must not be used.
-pub fn newest_count(before: &[Count], list: &[Count], after: &[Count], stream: usize, design_day: u16) -> Figure {
-    let record = |c: &Count| CountRecord { stream: c.stream, count_day: c.count_day, file_day: c.file_day, flow: c.flow };
+pub fn newest_count(before: &[Count], list: &[Count], after: &[Count], stream: usize, design_day: u16, period: usize) -> Figure {
+    let record = |c: &Count| CountRecord {
+        stream: c.stream,
+        count_day: c.count_day,
+        file_day: c.file_day,
+        flow: c.flow,
+        period: c.period,
+    };
     let memory: Vec<CountRecord> = before.iter().chain(list).chain(after).map(record).collect();
     let copy = memory.clone();
-    let answer = unsafe { givendra_newest_count(memory[before.len()..].as_ptr(), list.len(), stream, design_day) };
+    let answer = unsafe { givendra_newest_count(memory[before.len()..].as_ptr(), list.len(), stream, design_day, period) };
     assert_eq!(memory, copy, "newest_count changed a record");
     answer
 }

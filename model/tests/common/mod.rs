@@ -33,21 +33,28 @@ pub fn zone(a: u8, b: u8, clearing_a: u16, reaching_a: u16, clearing_b: u16, rea
     Zone { a, b, clearing_a, reaching_a, clearing_b, reaching_b }
 }
 
+/// A count on the design day, in period 1.
 pub fn count(stream: u8, flow: u16) -> Count {
-    Count { stream, count_day: 9000, file_day: 0, flow }
+    count_in(stream, flow, 1)
+}
+
+/// A count on the design day, in this period.
+pub fn count_in(stream: u8, flow: u16, period: u8) -> Count {
+    Count { stream, count_day: 9000, file_day: 0, flow, period }
 }
 
 pub fn junction(streams: &[Stream], zones: &[Zone], counts: &[Count]) -> Junction {
-    Junction { number: 7, design_day: 9000, streams: streams.to_vec(), zones: zones.to_vec(), counts: counts.to_vec() }
+    let (streams, zones, counts) = (streams.to_vec(), zones.to_vec(), counts.to_vec());
+    Junction { number: 7, design_day: 9000, period: 1, streams, zones, counts }
 }
 
 pub fn plan_file(cycle: u16, greens: &[(u16, u16)]) -> Vec<u8> {
     Plan { cycle, greens: greens.iter().map(|&(start, length)| Green { start, length }).collect() }.to_file()
 }
 
-/// The whole case and its plan, as the readings print them.
-pub const WC: &str = "01 00 04 00 07 23 28 02 00 0d 01 01 03 00 00 00 01 5e 01 0a 02 00 00 02 00 09 03 02 0c 00 46 00 c8 00 00 \
-                      03 00 0a 01 02 00 8c 00 4b 00 46 00 00 04 00 07 01 23 28 00 00 02 58";
+/// The whole case and its plan, as the readings print them, with the period 1 of request 2026-04 in the heading and in the count.
+pub const WC: &str = "01 00 05 00 07 23 28 01 02 00 0d 01 01 03 00 00 00 01 5e 01 0a 02 00 00 02 00 09 03 02 0c 00 46 00 c8 00 00 \
+                      03 00 0a 01 02 00 8c 00 4b 00 46 00 00 04 00 08 01 23 28 00 00 02 58 01";
 pub const WP: &str = "11 00 02 00 32 12 00 05 01 00 00 00 23 12 00 05 02 00 28 00 06";
 
 pub fn whole_case() -> Junction {

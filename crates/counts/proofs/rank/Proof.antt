@@ -7,7 +7,7 @@ use Rattle.counts.proofs.rank.Tie as tie
 
 returns : tie.Need-returns
 unfolding rank
-returns c = simp (sym (c .before .usable .ensures) ∙ c .if1 .taken)
+returns c = simp (sym (c .before .before .before .usable .ensures) ∙ c .before .before .if1 .taken)
 
 returns-2 : tie.Need-returns-2
 unfolding rank
@@ -15,4 +15,4 @@ returns-2 c = simp (sym (c .before .usable .ensures) ∙ c .if1 .left)
 
 pub rank-spec : {M : Type 1} → statement M
 rank-spec = tie.close
-    (tie.spec (λ c κs. search needs) (λ c. search needs) (λ c. search needs) returns returns-2)
+    (tie.spec (λ c κs. search needs) (λ c. search needs) (λ c. search needs) (λ c. search needs) (λ c. search needs) returns returns-2)

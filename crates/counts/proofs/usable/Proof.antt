@@ -10,4 +10,4 @@ returns c = search needs
 
 pub usable-spec : {M : Type 1} → statement M
 usable-spec = tie.close
-    (tie.spec returns)
+    (tie.spec (λ c. search needs) (λ c. search needs) returns)

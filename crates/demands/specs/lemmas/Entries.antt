@@ -11,6 +11,7 @@ use Rattle.laws.specs.Tests.{by-test}
 use Rattle.fields.specs.Verdict.{numberOf, placeOf, isRefused}
 use Rattle.fields.specs.declared.Verdict.{Verdict}
 use Rattle.fields.specs.declared.Verdict.the-variants.{Passed, Refused}
+use Rattle.counts.specs.declared.Wanted.{Wanted}
 use Rattle.junction_file.specs.Reading.{reading}
 use Rattle.planner.specs.lemmas.Cases.{file-taken, lent-refused, lent-taken, buffer-refused, worked-verdict}
 use Rattle.planner.specs.WorkingOut.{worked, buffer}
@@ -85,7 +86,7 @@ module _ (junction : List ℕ) where
     unfolding ratioAnswer figure
     ratio-holds = answers-by _ _ _ figure-some (car-answer junction n) (car-told junction n)
 
-pub newest-holds : (list : List CountRecord) (asked design : ℕ)
-    → AnswersBy (newestAnswer list asked design .refusal) (newestAnswer list asked design .place) (listAsked list asked design) (ListPlace asked)
+pub newest-holds : (list : List CountRecord) (w : Wanted)
+    → AnswersBy (newestAnswer list w .refusal) (newestAnswer list w .place) (listAsked list w) (ListPlace (w .stream))
 unfolding newestAnswer newestFigure figure
-newest-holds list asked design = answers-by _ _ _ list-some (list-answer list asked design) (list-told list asked design)
+newest-holds list w = answers-by _ _ _ list-some (list-answer list w) (list-told list w)

@@ -8,6 +8,7 @@ use lib.Dec.{leb}
 use Rattle.fields.specs.Verdict.{numberOf, placeOf, ask, firstRefusal}
 use Rattle.fields.specs.declared.Verdict.{Verdict}
 use Rattle.fields.specs.declared.Verdict.the-variants.{Passed, Refused}
+use Rattle.counts.specs.declared.Wanted.{Wanted}
 use Rattle.junction_questions.specs.Questions.{countRefers}
 use Rattle.junction_places.specs.Places.{exists}
 use Rattle.junction_file.specs.Reading.{reading}
@@ -116,10 +117,10 @@ module _ (junction : List ℕ) where
         let R = FigurePlace junction (λ p. p ≡ n) ⊥ in
         own-told _ _ _ (ask-told R (countRefers (reading junction .junction) n) 7 n Passed (λ e. of-stream refl) (λ e. tt))
 
-module _ (list : List CountRecord) (asked design : ℕ) where
-  pub list-answer : ask (leb 1 (listRank asked design list)) 9 asked Passed ≡ answer (listAsked list asked design)
+module _ (list : List CountRecord) (w : Wanted) where
+  pub list-answer : ask (leb 1 (listRank w list)) 9 (w .stream) Passed ≡ answer (listAsked list w)
   unfolding answer
   list-answer = refl
 
-  pub list-told : Told (ListPlace asked) (ask (leb 1 (listRank asked design list)) 9 asked Passed)
-  list-told = ask-told (ListPlace asked) (leb 1 (listRank asked design list)) 9 asked Passed (λ e. none-usable) (λ e. tt)
+  pub list-told : Told (ListPlace (w .stream)) (ask (leb 1 (listRank w list)) 9 (w .stream) Passed)
+  list-told = ask-told (ListPlace (w .stream)) (leb 1 (listRank w list)) 9 (w .stream) Passed (λ e. none-usable) (λ e. tt)

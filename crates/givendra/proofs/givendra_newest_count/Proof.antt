@@ -47,7 +47,7 @@ use denote.Triple.Clauses.{ensured, lasts}
 use denote.Triple.Walked.{says, Stays, stay-none-slice, stay-none, walkOf, goes-none-slice, goes-none, Walks, ends-at, walked, walk-meets}
 use denote.Exit.{yes}
 use Rattle.laws.specs.Largest.{largestOf, largest-next}
-use Rattle.givendra.specs.LentList.{noRecord, recordAt, recordRank, listRank, newestFigure, newestAnswer}
+use Rattle.givendra.specs.LentList.{wanted, noRecord, recordAt, recordRank, listRank, newestFigure, newestAnswer}
 use Rattle.givendra.specs.declared.CountRecord.{CountRecord}
 use Rattle.givendra.specs.declared.Figure.{Figure}
 use Rattle.givendra.proofs.CountRecord as R
@@ -85,10 +85,10 @@ abbrev vals : CountRecord → List Val
 vals = LL.vals R.the-type R′.the-laws
 
 abbrev Arg : Type 0
-Arg = RefT (List CountRecord) × (ℕ × (ℕ × Unit {0}))
+Arg = RefT (List CountRecord) × (ℕ × (ℕ × (ℕ × Unit {0})))
 
 abbrev stayed : Stays (newest.ended .signature .params) (newest.ended .kept)
-stayed = (stay-none-slice (0 ∷ []) tt (plain (λ _. R.the-row)) yes, (stay-none (λ _. usize) yes, (stay-none (λ _. u16) yes, tt)))
+stayed = (stay-none-slice (0 ∷ []) tt (plain (λ _. R.the-row)) yes, (stay-none (λ _. usize) yes, (stay-none (λ _. u16) yes, (stay-none (λ _. usize) yes, tt))))
 
 -- ---- what the two callees promise
 module _ {M : Type 1} (𝓤 : URA M) (H : Heap 𝓤) (A : Atoms 𝓤) (mem : Memory → SProp 𝓤) (run : Routine → Fun 𝓤) where
@@ -98,23 +98,23 @@ module _ {M : Type 1} (𝓤 : URA M) (H : Heap 𝓤) (A : Atoms 𝓤) (mem : Mem
   abbrev Figured : Contract 𝓤
   Figured = tripleOf 𝓤 H A figure.signature (figure.spec 𝓤 H A mem run)
 
-  newer-of : (best asked design : ℕ) (x : CountRecord) (r : ℕ)
-      → ent 𝓤 (ensured 𝓤 H A newer.ended (newer.clauses 𝓤 H A mem run) tt (best, (asked, (design, (x, tt)))) tt r) (fact 𝓤 (r ≡ max best (recordRank asked design x)))
-  newer-of best asked design x r = exE 𝓤 _ (λ ws. snd∗ 𝓤 (sem 𝓤 H A (lasts newer.ended tt (best, (asked, (design, (x, tt)))) ws)) (fact 𝓤 (r ≡ max best (recordRank asked design x))))
+  newer-of : (best asked design period : ℕ) (x : CountRecord) (r : ℕ)
+      → ent 𝓤 (ensured 𝓤 H A newer.ended (newer.clauses 𝓤 H A mem run) tt (best, (asked, (design, (period, (x, tt))))) tt r) (fact 𝓤 (r ≡ max best (recordRank (wanted asked design period) x)))
+  newer-of best asked design period x r = exE 𝓤 _ (λ ws. snd∗ 𝓤 (sem 𝓤 H A (lasts newer.ended tt (best, (asked, (design, (period, (x, tt))))) ws)) (fact 𝓤 (r ≡ max best (recordRank (wanted asked design period) x))))
 
   figure-of : (asked best : ℕ) (r : Figure)
       → ent 𝓤 (ensured 𝓤 H A figure.ended (figure.clauses 𝓤 H A mem run) tt (asked, (best, tt)) tt r) (fact 𝓤 (r ≡ newestFigure asked best))
   figure-of asked best r = exE 𝓤 _ (λ ws. snd∗ 𝓤 (sem 𝓤 H A (lasts figure.ended tt (asked, (best, tt)) ws)) (fact 𝓤 (r ≡ newestFigure asked best)))
 
-module _ {M : Type 1} (𝓤 : URA M) (H : Heap 𝓤) (A : Atoms 𝓤) (W : Given 𝓤 H A) (mem : Memory → SProp 𝓤) (run : Routine → Fun 𝓤) (κ : Lft) (q : Share) (b o : ℕ) (γ : GName) (ys : List CountRecord) (asked design : ℕ) where
+module _ {M : Type 1} (𝓤 : URA M) (H : Heap 𝓤) (A : Atoms 𝓤) (W : Given 𝓤 H A) (mem : Memory → SProp 𝓤) (run : Routine → Fun 𝓤) (κ : Lft) (q : Share) (b o : ℕ) (γ : GName) (ys : List CountRecord) (asked design period : ℕ) where
   abbrev n : ℕ
   n = length ys
 
   abbrev x : Arg
-  x = (record { ptr = (b, o); name = γ; now = ys }, (asked, (design, tt)))
+  x = (record { ptr = (b, o); name = γ; now = ys }, (asked, (design, (period, tt))))
 
-  abbrev at : List Val × (List Val × (List Val × Unit {0}))
-  at = (sliceVal (b, o) n ∷ [], (vint w64 asked ∷ [], (vint w16 design ∷ [], tt)))
+  abbrev at : List Val × (List Val × (List Val × (List Val × Unit {0})))
+  at = (sliceVal (b, o) n ∷ [], (vint w64 asked ∷ [], (vint w16 design ∷ [], (vint w64 period ∷ [], tt))))
 
   abbrev bound : walkOf 𝓤 H A newest.ended stayed (newest.clauses 𝓤 H A mem run) .Ghost
   bound = (((κ, tt), (q, tt), tt, x, at), tt)
@@ -124,7 +124,7 @@ module _ {M : Type 1} (𝓤 : URA M) (H : Heap 𝓤) (A : Atoms 𝓤) (W : Given
 
   -- the rank of the record at i, and the highest rank of the first i records
   abbrev rankOf : ℕ → ℕ
-  rankOf i = recordRank asked design (recordAt ys i)
+  rankOf i = recordRank (wanted asked design period) (recordAt ys i)
 
   abbrev top : ℕ → ℕ
   top i = largestOf rankOf i
@@ -136,27 +136,28 @@ module _ {M : Type 1} (𝓤 : URA M) (H : Heap 𝓤) (A : Atoms 𝓤) (W : Given
   abbrev named-by : Item 𝓤
   named-by = ‵ (fres γ (codedHoleys R.the-row .code (heres R.the-row ys)))
 
-  module _ (gn : Room R.the-row n) (ga : asked < 2 ^ 64) (gd : design < 2 ^ 16) where
+  module _ (gn : Room R.the-row n) (ga : asked < 2 ^ 64) (gd : design < 2 ^ 16) (gp : period < 2 ^ 64) where
     -- what is had at the end gives what the contract asks
-    exits : (r : Figure) (v : Val) → r ≡ newestAnswer ys asked design → ent 𝓤 (⋆ 𝓤 H A (‵ (flft κ q) ∷ ‵ (F.the-row .own r (v ∷ [])) ∷ shared ∷ named-by ∷ [])) (Post v)
+    exits : (r : Figure) (v : Val) → r ≡ newestAnswer ys (wanted asked design period) → ent 𝓤 (⋆ 𝓤 H A (‵ (flft κ q) ∷ ‵ (F.the-row .own r (v ∷ [])) ∷ shared ∷ named-by ∷ [])) (Post v)
     exits r v e =
         qed W (‵ (flft κ q) ∷ ‵ (F.the-row .own r (v ∷ [])) ∷ shared ∷ named-by ∷ []) ∵
-        suffices ! _ (ends-at 𝓤 H A newest.ended stayed (newest.clauses 𝓤 H A mem run) W bound v r (tt, (tt, (tt, tt))) (tt, (tt, (tt, tt)))) $ says ! e $
-        move ! (3 ∷ 2 ∷ []) $ fjoin ! $ fltI ! (n * 8) (2 ^ 63) (gn .1) $ fltI ! n (2 ^ 64) (gn .0) $ fjoin ! $ feqI ! (List Val) (at .0) (at .0) refl $ fjoin ! $ fjoin ! $
-        nothing ! $ owned ! u16 (Is u16) (uint-makes 𝓤 H A W w16) design _ (refl, gd) $ fjoin ! $ owned ! usize (Is usize) (uint-makes 𝓤 H A W w64) asked _ (refl, ga) $ fjoin ! $
+        suffices ! _ (ends-at 𝓤 H A newest.ended stayed (newest.clauses 𝓤 H A mem run) W bound v r (tt, (tt, (tt, (tt, tt)))) (tt, (tt, (tt, (tt, tt))))) $ says ! e $
+        move ! (3 ∷ 2 ∷ []) $ fjoin ! $ fltI ! (n * 10) (2 ^ 63) (gn .1) $ fltI ! n (2 ^ 64) (gn .0) $ fjoin ! $ feqI ! (List Val) (at .0) (at .0) refl $ fjoin ! $ fjoin ! $
+        nothing ! $ owned ! usize (Is usize) (uint-makes 𝓤 H A W w64) period _ (refl, gp) $ fjoin ! $
+        owned ! u16 (Is u16) (uint-makes 𝓤 H A W w16) design _ (refl, gd) $ fjoin ! $ owned ! usize (Is usize) (uint-makes 𝓤 H A W w64) asked _ (refl, ga) $ fjoin ! $
         move ! (1 ∷ 0 ∷ []) $ fjoin ! $ nothing ! $ move ! (2 ∷ 0 ∷ []) $ join ! $ done !
 
     -- the locals and where they lie
-    abbrev Locals : (l₀ l₁ l₂ l₃ l₄ l₅ l₆ l₇ l₈ l₉ : ℕ) → Env 𝓤 H
-    Locals l₀ l₁ l₂ l₃ l₄ l₅ l₆ l₇ l₈ l₉ = (F′.mir, l₀) ∷ (slice, l₁) ∷ (word, l₂) ∷ (short, l₃) ∷ (half, l₄) ∷ (word, l₅) ∷ (word, l₆) ∷ (tyBool, l₇) ∷ (tyPtr, l₈) ∷ (R′.mir, l₉) ∷ []
+    abbrev Locals : (l₀ l₁ l₂ l₃ l₄ l₅ l₆ l₇ l₈ l₉ l₁₀ : ℕ) → Env 𝓤 H
+    Locals l₀ l₁ l₂ l₃ l₄ l₅ l₆ l₇ l₈ l₉ l₁₀ = (F′.mir, l₀) ∷ (slice, l₁) ∷ (word, l₂) ∷ (short, l₃) ∷ (word, l₄) ∷ (half, l₅) ∷ (word, l₆) ∷ (word, l₇) ∷ (tyBool, l₈) ∷ (tyPtr, l₉) ∷ (R′.mir, l₁₀) ∷ []
 
     -- the two calls: what is passed
     abbrev to-newer : ℕ → CountRecord → Newer 𝓤 H A mem run .Ghost
-    to-newer best r = ((tt, tt, tt, (best, (asked, (design, (r, tt)))), (vint w32 best ∷ [], (vint w64 asked ∷ [], (vint w16 design ∷ [], (vals r, tt))))), tt)
+    to-newer best r = ((tt, tt, tt, (best, (asked, (design, (period, (r, tt))))), (vint w32 best ∷ [], (vint w64 asked ∷ [], (vint w16 design ∷ [], (vint w64 period ∷ [], (vals r, tt)))))), tt)
 
     goes-newer : (best : ℕ) → best < 2 ^ 32 → (r : CountRecord) → ent 𝓤 (sem 𝓤 H A (R.the-row .own r (vals r))) (Newer 𝓤 H A mem run .pre (to-newer best r))
     goes-newer best gb r =
-        qed W (‵ (R.the-row .own r (vals r)) ∷ []) ∵ nothing ! $ move ! (1 ∷ 0 ∷ []) $ fjoin ! $ owned ! u16 (Is u16) (uint-makes 𝓤 H A W w16) design _ (refl, gd) $ fjoin ! $
+        qed W (‵ (R.the-row .own r (vals r)) ∷ []) ∵ nothing ! $ move ! (1 ∷ 0 ∷ []) $ fjoin ! $ owned ! usize (Is usize) (uint-makes 𝓤 H A W w64) period _ (refl, gp) $ fjoin ! $ owned ! u16 (Is u16) (uint-makes 𝓤 H A W w16) design _ (refl, gd) $ fjoin ! $
         owned ! usize (Is usize) (uint-makes 𝓤 H A W w64) asked _ (refl, ga) $ fjoin ! $ owned ! u32 (Is u32) (uint-makes 𝓤 H A W w32) best _ (refl, gb) $ fjoin ! $
         nothing ! $ join ! $ nothing ! $ move ! (1 ∷ 0 ∷ []) $ done !
 
@@ -168,7 +169,7 @@ module _ {M : Type 1} (𝓤 : URA M) (H : Heap 𝓤) (A : Atoms 𝓤) (W : Given
         qed W [] ∵ nothing ! $ owned ! u32 (Is u32) (uint-makes 𝓤 H A W w32) best _ (refl, gb) $ fjoin ! $ owned ! usize (Is usize) (uint-makes 𝓤 H A W w64) asked _ (refl, ga) $ fjoin ! $
         nothing ! $ join ! $ nothing ! $ move ! (1 ∷ 0 ∷ []) $ done !
 
-    module _ (𝓣 : Tables 𝓤 H) (known-newer : Triple 𝓤 (𝓣 .C #newer) (Newer 𝓤 H A mem run)) (known-figure : Triple 𝓤 (𝓣 .C #figure) (Figured 𝓤 H A mem run)) (q′ : Share) (l₀ l₁ l₂ l₃ l₄ l₅ l₆ l₇ l₈ l₉ : ℕ) where
+    module _ (𝓣 : Tables 𝓤 H) (known-newer : Triple 𝓤 (𝓣 .C #newer) (Newer 𝓤 H A mem run)) (known-figure : Triple 𝓤 (𝓣 .C #figure) (Figured 𝓤 H A mem run)) (q′ : Share) (l₀ l₁ l₂ l₃ l₄ l₅ l₆ l₇ l₈ l₉ l₁₀ : ℕ) where
       abbrev C : Calls 𝓤 H
       C = 𝓣 .C
 
@@ -179,17 +180,17 @@ module _ {M : Type 1} (𝓤 : URA M) (H : Heap 𝓤) (A : Atoms 𝓤) (W : Given
       fm = fmOf 𝓤 H (W .laws) 𝓣
 
       abbrev E : Env 𝓤 H
-      E = Locals l₀ l₁ l₂ l₃ l₄ l₅ l₆ l₇ l₈ l₉
+      E = Locals l₀ l₁ l₂ l₃ l₄ l₅ l₆ l₇ l₈ l₉ l₁₀
 
       -- what no turn changes: the parameters' locals, the result's, the elements and what shuts them, and that each local dies
       abbrev Frame : List (Item 𝓤)
-      Frame = ‵ (fat fullShare slice l₁ 0 (sliceVal (b, o) n)) ∷ ‵ (fat fullShare word l₂ 0 (vint w64 asked)) ∷ ‵ (fat fullShare short l₃ 0 (vint w16 design)) ∷ ‵ (froom F′.mir l₀ 0)
+      Frame = ‵ (fat fullShare slice l₁ 0 (sliceVal (b, o) n)) ∷ ‵ (fat fullShare word l₂ 0 (vint w64 asked)) ∷ ‵ (fat fullShare short l₃ 0 (vint w16 design)) ∷ ‵ (fat fullShare word l₄ 0 (vint w64 period)) ∷ ‵ (froom F′.mir l₀ 0)
           ∷ ‵ (row R.the-row q′ ys b o) ∷ ‵ (fobor κ q (arr-parts (shares R.the-row) n .part q′ ys b o)) ∷ shared ∷ named-by
-          ∷ ‵ (fdies F′.mir l₀) ∷ ‵ (fdies slice l₁) ∷ ‵ (fdies word l₂) ∷ ‵ (fdies short l₃) ∷ ‵ (fdies half l₄) ∷ ‵ (fdies word l₅) ∷ ‵ (fdies word l₆) ∷ ‵ (fdies tyBool l₇) ∷ ‵ (fdies tyPtr l₈) ∷ ‵ (fdies R′.mir l₉) ∷ []
+          ∷ ‵ (fdies F′.mir l₀) ∷ ‵ (fdies slice l₁) ∷ ‵ (fdies word l₂) ∷ ‵ (fdies short l₃) ∷ ‵ (fdies word l₄) ∷ ‵ (fdies half l₅) ∷ ‵ (fdies word l₆) ∷ ‵ (fdies word l₇) ∷ ‵ (fdies tyBool l₈) ∷ ‵ (fdies tyPtr l₉) ∷ ‵ (fdies R′.mir l₁₀) ∷ []
 
       -- before the turn at i: the highest rank of the first i records, i, and the four locals that a turn fills
       abbrev At : ℕ → List (Item 𝓤)
-      At i = ‵ (fat fullShare half l₄ 0 (vint w32 (top i))) ∷ ‵ (fat fullShare word l₅ 0 (vint w64 i)) ∷ ‵ (froom word l₆ 0) ∷ ‵ (froom tyBool l₇ 0) ∷ ‵ (froom tyPtr l₈ 0) ∷ ‵ (froom R′.mir l₉ 0) ∷ Frame
+      At i = ‵ (fat fullShare half l₅ 0 (vint w32 (top i))) ∷ ‵ (fat fullShare word l₆ 0 (vint w64 i)) ∷ ‵ (froom word l₇ 0) ∷ ‵ (froom tyBool l₈ 0) ∷ ‵ (froom tyPtr l₉ 0) ∷ ‵ (froom R′.mir l₁₀ 0) ∷ Frame
 
       -- the invariant, where t records are left
       abbrev Facts : ℕ → ℕ → Type 0
@@ -213,28 +214,28 @@ module _ {M : Type 1} (𝓤 : URA M) (H : Heap 𝓤) (A : Atoms 𝓤) (W : Given
           qed W (At i) ∵ exec ! C Λ E mir.turn-1 (anyQ (afterTurn 𝓤 H X Left)) $
           assigns ! (of-opd ! (load ! (from ! (fld ! refl (stop !))) (look-in ! 6 (sub ! 1 refl (whole !))))) (from ! (stop !)) (init ! 2 refl (tt, record { fits = gn .0 })) $
           assigns ! (bin ! (load ! (from ! (stop !)) (look ! 1 refl)) (load ! (from ! (stop !)) (look ! 2 refl)) tt) (from ! (stop !)) (init ! 3 refl (tt, tt)) $
-          rewrite ! 3 (λ (t : Bool). ‵ (fat fullShare tyBool l₇ 0 (vbool t))) (lt-ltb i n small) refl $
+          rewrite ! 3 (λ (t : Bool). ‵ (fat fullShare tyBool l₈ 0 (vbool t))) (lt-ltb i n small) refl $
           stays ! (load ! (from ! (stop !)) (look ! 3 refl)) $
           assigns ! (bin ! (load ! (from ! (stop !)) (look ! 1 refl)) (lit ! tt) (record { fits = place-fits })) (from ! (stop !)) (store ! 2 refl (tt, record { fits = place-fits })) $
           assigns ! (bin ! (load ! (from ! (fld ! refl (stop !))) (look-in ! 6 (sub ! 0 refl (whole !)))) (load ! (from ! (stop !)) (look ! 2 refl)) tt) (from ! (stop !)) (init ! 4 refl (tt, tt)) $
-          rewrite ! 4 (λ (p : ℕ). ‵ (fat fullShare tyPtr l₈ 0 (vptr b p))) (sym (place-is 8 o i)) refl $
+          rewrite ! 4 (λ (p : ℕ). ‵ (fat fullShare tyPtr l₉ 0 (vptr b p))) (sym (place-is 10 o i)) refl $
           -- the record is taken out of the row, copied, and put back
-          move ! (10 ∷ []) $ elem-out ! R.the-row (Is R.the-row) (shows 𝓤 H A R.the-row) vals (LL.tells R.the-type R′.the-laws) q′ ys i noRecord b o small (λ is.
+          move ! (11 ∷ []) $ elem-out ! R.the-row (Is R.the-row) (shows 𝓤 H A R.the-row) vals (LL.tells R.the-type R′.the-laws) q′ ys i noRecord b o small (λ is.
           assigns ! (of-opd ! (load ! (from ! (hop ! (look ! 7 refl) (stop !))) (look-raw ! 0 refl))) (from ! (stop !)) (init ! 8 refl (LL.lawful R.the-type R′.the-laws 𝓤 H A W .typed (recordAt ys i) _ is .0)) $
           move ! (1 ∷ []) $ use1 W (‵ (R.the-row .own (recordAt ys i) (vals (recordAt ys i))) ⊛ ‵ (R.the-row .own (recordAt ys i) (vals (recordAt ys i)))) (LL.copy R.the-type R′.the-copy 𝓤 H A W .twice (recordAt ys i) (vals (recordAt ys i))) $ split ! $
           move ! (2 ∷ 0 ∷ 3 ∷ []) $ elem-back ! R.the-row q′ ys i noRecord (vals (recordAt ys i)) b o small $
           -- [the elements; the record's; the rank so far; i; …]
           move ! (1 ∷ []) $ use1 W (raw (Newer 𝓤 H A mem run .pre (to-newer (top i) (recordAt ys i)))) (goes-newer (top i) fits (recordAt ys i)) $
           calls-at ! fm (Newer 𝓤 H A mem run) known-newer (to-newer (top i) (recordAt ys i))
-          (and-then ! (load ! (from ! (stop !)) (look ! 2 refl)) (and-then ! (load ! (from ! (stop !)) (look ! 9 refl)) (and-then ! (load ! (from ! (stop !)) (look ! 10 refl)) (and-then ! (load ! (from ! (stop !)) (look ! 7 refl)) (no-more !))))) (λ v.
-          use1 W (later (some (λ (r : ℕ). (‵ ftrue ⊛ ‵ (u32 .own r (v ∷ []))) ⊛ raw (ensured 𝓤 H A newer.ended (newer.clauses 𝓤 H A mem run) tt (top i, (asked, (design, (recordAt ys i, tt)))) tt r)))) (id⊢ 𝓤 _) $ await ! tt $ pick ! (λ r.
-          split ! $ move ! (1 ∷ []) $ use1 W (raw (fact 𝓤 (r ≡ max (top i) (rankOf i)))) (newer-of 𝓤 H A mem run (top i) asked design (recordAt ys i) r) $ heard ! (r ≡ max (top i) (rankOf i)) (λ is-max. split ! $ drop ! $
+          (and-then ! (load ! (from ! (stop !)) (look ! 2 refl)) (and-then ! (load ! (from ! (stop !)) (look ! 9 refl)) (and-then ! (load ! (from ! (stop !)) (look ! 10 refl)) (and-then ! (load ! (from ! (stop !)) (look ! 11 refl)) (and-then ! (load ! (from ! (stop !)) (look ! 7 refl)) (no-more !)))))) (λ v.
+          use1 W (later (some (λ (r : ℕ). (‵ ftrue ⊛ ‵ (u32 .own r (v ∷ []))) ⊛ raw (ensured 𝓤 H A newer.ended (newer.clauses 𝓤 H A mem run) tt (top i, (asked, (design, (period, (recordAt ys i, tt))))) tt r)))) (id⊢ 𝓤 _) $ await ! tt $ pick ! (λ r.
+          split ! $ move ! (1 ∷ []) $ use1 W (raw (fact 𝓤 (r ≡ max (top i) (rankOf i)))) (newer-of 𝓤 H A mem run (top i) asked design period (recordAt ys i) r) $ heard ! (r ≡ max (top i) (rankOf i)) (λ is-max. split ! $ drop ! $
           facts ! u32 (Is u32) (shows 𝓤 H A u32) r (v ∷ []) (λ are. let e : r ≡ top (i + 1) = is-max ∙ sym (largest-next rankOf i) in
-          land ! (from ! (stop !)) (store ! 1 refl (uint-lawful 𝓤 H A W w32 .typed r _ are .0)) $ rewrite ! 1 (λ (u : Val). ‵ (fat fullShare half l₄ 0 u)) (ap only (are .0) ∙ ap (vint w32) e) refl $
+          land ! (from ! (stop !)) (store ! 1 refl (uint-lawful 𝓤 H A W w32 .typed r _ are .0)) $ rewrite ! 1 (λ (u : Val). ‵ (fat fullShare half l₅ 0 u)) (ap only (are .0) ∙ ap (vint w32) e) refl $
           assigns-last ! (bin ! (load ! (from ! (stop !)) (look ! 2 refl)) (lit ! tt) (record { fits = next-fits })) (from ! (stop !)) (store ! 2 refl (tt, record { fits = next-fits })) $
-          forget ! 3 refl $ forget ! 4 refl $ forget ! 5 refl $ forget ! 6 refl $ move ! (1 ∷ 2 ∷ 3 ∷ 4 ∷ 5 ∷ 6 ∷ 7 ∷ 8 ∷ 9 ∷ 10 ∷ []) $ by ! (k (subst (λ (m : ℕ). m < 2 ^ 32) e (are .1))))))))
+          forget ! 3 refl $ forget ! 4 refl $ forget ! 5 refl $ forget ! 6 refl $ move ! (1 ∷ 2 ∷ 3 ∷ 4 ∷ 5 ∷ 6 ∷ 7 ∷ 8 ∷ 9 ∷ 10 ∷ 11 ∷ []) $ by ! (k (subst (λ (m : ℕ). m < 2 ^ 32) e (are .1))))))))
         where
-          place-fits : i * 8 < 2 ^ 64
+          place-fits : i * 10 < 2 ^ 64
           place-fits = omega (arith, gn .1)
 
           next-fits : i + 1 < 2 ^ 64
@@ -247,18 +248,18 @@ module _ {M : Type 1} (𝓤 : URA M) (H : Heap 𝓤) (A : Atoms 𝓤) (W : Given
           qed W (At n) ∵ exec ! C Λ E mir.turn-1 (anyQ (afterTurn 𝓤 H X Left)) $
           assigns ! (of-opd ! (load ! (from ! (fld ! refl (stop !))) (look-in ! 6 (sub ! 1 refl (whole !))))) (from ! (stop !)) (init ! 2 refl (tt, record { fits = gn .0 })) $
           assigns ! (bin ! (load ! (from ! (stop !)) (look ! 1 refl)) (load ! (from ! (stop !)) (look ! 2 refl)) tt) (from ! (stop !)) (init ! 3 refl (tt, tt)) $
-          rewrite ! 3 (λ (t : Bool). ‵ (fat fullShare tyBool l₇ 0 (vbool t))) (le-ltb n n (le-refl n)) refl $
+          rewrite ! 3 (λ (t : Bool). ‵ (fat fullShare tyBool l₈ 0 (vbool t))) (le-ltb n n (le-refl n)) refl $
           leaves-loop ! (load ! (from ! (stop !)) (look ! 3 refl)) $ exec ! C Λ E mir.t-4 (atRet E Post) $
           use0 W (raw (Figured 𝓤 H A mem run .pre (to-figure (top n)))) (goes-figure (top n) fits) $
           calls-at ! fm (Figured 𝓤 H A mem run) known-figure (to-figure (top n)) (and-then ! (load ! (from ! (stop !)) (look ! 8 refl)) (and-then ! (load ! (from ! (stop !)) (look ! 1 refl)) (no-more !))) (λ v.
           use1 W (later (some (λ (r : Figure). (‵ ftrue ⊛ ‵ (F.the-row .own r (v ∷ []))) ⊛ raw (ensured 𝓤 H A figure.ended (figure.clauses 𝓤 H A mem run) tt (asked, (top n, tt)) tt r)))) (id⊢ 𝓤 _) $ await ! tt $ pick ! (λ r.
           split ! $ move ! (1 ∷ []) $ use1 W (raw (fact 𝓤 (r ≡ newestFigure asked (top n)))) (figure-of 𝓤 H A mem run asked (top n) r) $ heard ! (r ≡ newestFigure asked (top n)) (λ e. split ! $ drop ! $
           peeks ! F.the-row (Is F.the-row) (shows 𝓤 H A F.the-row) r (v ∷ []) (λ is.
-          land ! (from ! (stop !)) (init ! 10 refl (LL.lawful F.the-type F′.the-laws 𝓤 H A W .typed r _ is .0)) $
-          move ! (11 ∷ 12 ∷ []) $ shuts-slice ! tt R.the-row q′ ys b o $
-          -- [the token; the figure's; _4; _5; _6; _7; _8; _9; _1; _2; _3; _0; the borrow; its name; and that each local dies]
-          returns ! (look ! 11 refl) $ forget ! 2 refl $ forget ! 3 refl $ forget ! 4 refl $ forget ! 5 refl $ forget ! 8 refl $ forget ! 9 refl $ forget ! 10 refl $ forget ! 11 refl $
-          move ! (11 ∷ 14 ∷ []) $ free1 ! $ move ! (8 ∷ 13 ∷ []) $ free1 ! $ move ! (8 ∷ 12 ∷ []) $ free1 ! $ move ! (8 ∷ 11 ∷ []) $ free1 ! $ move ! (2 ∷ 10 ∷ []) $ free1 ! $
+          land ! (from ! (stop !)) (init ! 11 refl (LL.lawful F.the-type F′.the-laws 𝓤 H A W .typed r _ is .0)) $
+          move ! (12 ∷ 13 ∷ []) $ shuts-slice ! tt R.the-row q′ ys b o $
+          -- [the token; the figure's; _5; _6; _7; _8; _9; _10; _1; _2; _3; _4; _0; the borrow; its name; and that each local dies]
+          returns ! (look ! 12 refl) $ forget ! 2 refl $ forget ! 3 refl $ forget ! 4 refl $ forget ! 5 refl $ forget ! 8 refl $ forget ! 9 refl $ forget ! 10 refl $ forget ! 11 refl $ forget ! 12 refl $
+          move ! (12 ∷ 15 ∷ []) $ free1 ! $ move ! (8 ∷ 14 ∷ []) $ free1 ! $ move ! (8 ∷ 13 ∷ []) $ free1 ! $ move ! (8 ∷ 12 ∷ []) $ free1 ! $ move ! (8 ∷ 11 ∷ []) $ free1 ! $ move ! (2 ∷ 10 ∷ []) $ free1 ! $
           move ! (2 ∷ 9 ∷ []) $ free1 ! $ move ! (2 ∷ 8 ∷ []) $ free1 ! $ move ! (2 ∷ 7 ∷ []) $ free1 ! $ move ! (2 ∷ 6 ∷ []) $ free1 ! $ move ! (2 ∷ 5 ∷ []) $ free1 ! $ free0 ! $
           by ! (exits r v e)))))
 
@@ -287,44 +288,45 @@ module _ {M : Type 1} (𝓤 : URA M) (H : Heap 𝓤) (A : Atoms 𝓤) (W : Given
 
     module _ (𝓣 : Tables 𝓤 H) (known-newer : Triple 𝓤 (𝓣 .C #newer) (Newer 𝓤 H A mem run)) (known-figure : Triple 𝓤 (𝓣 .C #figure) (Figured 𝓤 H A mem run)) where
       -- where the body begins: the locals, the last first, and what is had at entry
-      abbrev Entered : (l₀ l₁ l₂ l₃ l₄ l₅ l₆ l₇ l₈ l₉ : ℕ) → List (Item 𝓤)
-      Entered l₀ l₁ l₂ l₃ l₄ l₅ l₆ l₇ l₈ l₉ = ‵ (froom R′.mir l₉ 0) ∷ ‵ (fdies R′.mir l₉) ∷ ‵ (froom tyPtr l₈ 0) ∷ ‵ (fdies tyPtr l₈) ∷ ‵ (froom tyBool l₇ 0) ∷ ‵ (fdies tyBool l₇)
-          ∷ ‵ (froom word l₆ 0) ∷ ‵ (fdies word l₆) ∷ ‵ (froom word l₅ 0) ∷ ‵ (fdies word l₅) ∷ ‵ (froom half l₄ 0) ∷ ‵ (fdies half l₄)
+      abbrev Entered : (l₀ l₁ l₂ l₃ l₄ l₅ l₆ l₇ l₈ l₉ l₁₀ : ℕ) → List (Item 𝓤)
+      Entered l₀ l₁ l₂ l₃ l₄ l₅ l₆ l₇ l₈ l₉ l₁₀ = ‵ (froom R′.mir l₁₀ 0) ∷ ‵ (fdies R′.mir l₁₀) ∷ ‵ (froom tyPtr l₉ 0) ∷ ‵ (fdies tyPtr l₉) ∷ ‵ (froom tyBool l₈ 0) ∷ ‵ (fdies tyBool l₈)
+          ∷ ‵ (froom word l₇ 0) ∷ ‵ (fdies word l₇) ∷ ‵ (froom word l₆ 0) ∷ ‵ (fdies word l₆) ∷ ‵ (froom half l₅ 0) ∷ ‵ (fdies half l₅)
+          ∷ ‵ (fat fullShare word l₄ 0 (vint w64 period)) ∷ ‵ (fdies word l₄)
           ∷ ‵ (fat fullShare short l₃ 0 (vint w16 design)) ∷ ‵ (fdies short l₃) ∷ ‵ (fat fullShare word l₂ 0 (vint w64 asked)) ∷ ‵ (fdies word l₂)
           ∷ ‵ (fat fullShare slice l₁ 0 (sliceVal (b, o) n)) ∷ ‵ (fdies slice l₁) ∷ ‵ (froom F′.mir l₀ 0) ∷ ‵ (fdies F′.mir l₀)
-          ∷ (‵ (flft κ q) ⊛ ‵ ftrue) ∷ ‵ (owns (ShrSlice (named 0) κ R.the-row ∷ usize ∷ u16 ∷ []) x at) ∷ []
+          ∷ (‵ (flft κ q) ⊛ ‵ ftrue) ∷ ‵ (owns (ShrSlice (named 0) κ R.the-row ∷ usize ∷ u16 ∷ usize ∷ []) x at) ∷ []
 
       -- the body up to the loop: the slice is looked into
-      enters : (l₀ l₁ l₂ l₃ l₄ l₅ l₆ l₇ l₈ l₉ : ℕ)
-          → Sq W (Entered l₀ l₁ l₂ l₃ l₄ l₅ l₆ l₇ l₈ l₉) (runs (𝓣 .C) (𝓣 .Λ) (Locals l₀ l₁ l₂ l₃ l₄ l₅ l₆ l₇ l₈ l₉) mir.t-1 (atRet (Locals l₀ l₁ l₂ l₃ l₄ l₅ l₆ l₇ l₈ l₉) Post))
+      enters : (l₀ l₁ l₂ l₃ l₄ l₅ l₆ l₇ l₈ l₉ l₁₀ : ℕ)
+          → Sq W (Entered l₀ l₁ l₂ l₃ l₄ l₅ l₆ l₇ l₈ l₉ l₁₀) (runs (𝓣 .C) (𝓣 .Λ) (Locals l₀ l₁ l₂ l₃ l₄ l₅ l₆ l₇ l₈ l₉ l₁₀) mir.t-1 (atRet (Locals l₀ l₁ l₂ l₃ l₄ l₅ l₆ l₇ l₈ l₉ l₁₀) Post))
       unfolding largestOf
-      enters l₀ l₁ l₂ l₃ l₄ l₅ l₆ l₇ l₈ l₉ =
+      enters l₀ l₁ l₂ l₃ l₄ l₅ l₆ l₇ l₈ l₉ l₁₀ =
           assigns ! (of-opd ! (lit ! tt)) (from ! (stop !)) (init ! 10 refl (tt, record { fits = lit< tt })) $ assigns ! (of-opd ! (lit ! tt)) (from ! (stop !)) (init ! 8 refl (tt, record { fits = lit< tt })) $
-          move ! (21 ∷ []) $ fsplit ! $ fsplit ! $ move ! (1 ∷ []) $ fsplit ! $ move ! (24 ∷ []) $ split ! $ move ! (3 ∷ 0 ∷ []) $
+          move ! (23 ∷ []) $ fsplit ! $ fsplit ! $ move ! (1 ∷ []) $ fsplit ! $ move ! (26 ∷ []) $ split ! $ move ! (3 ∷ 0 ∷ []) $
           looks-slice ! tt R.the-row (Is R.the-row) (shows 𝓤 H A R.the-row) vals (LL.tells R.the-type R′.the-laws) (LL.copy R.the-type R′.the-copy 𝓤 H A W) ys b o (λ q′.
-          -- [the elements; what shuts them; the borrow; true; its name; what the slice says; the rest of the parameters'; _9 and that it dies; … _0 and that it dies]
-          keep ! (17 ∷ 15 ∷ 13 ∷ 11 ∷ 9 ∷ 7 ∷ 23 ∷ 21 ∷ 19 ∷ 25 ∷ 0 ∷ 1 ∷ 2 ∷ 4 ∷ 26 ∷ 24 ∷ 22 ∷ 20 ∷ 18 ∷ 16 ∷ 14 ∷ 12 ∷ 10 ∷ 8 ∷ []) $
-          by ! (loops 𝓣 known-newer known-figure q′ l₀ l₁ l₂ l₃ l₄ l₅ l₆ l₇ l₈ l₉))
+          -- [the elements; what shuts them; the borrow; true; its name; what the slice says; the rest of the parameters'; _10 and that it dies; … _0 and that it dies]
+          keep ! (17 ∷ 15 ∷ 13 ∷ 11 ∷ 9 ∷ 7 ∷ 25 ∷ 23 ∷ 21 ∷ 19 ∷ 27 ∷ 0 ∷ 1 ∷ 2 ∷ 4 ∷ 28 ∷ 26 ∷ 24 ∷ 22 ∷ 20 ∷ 18 ∷ 16 ∷ 14 ∷ 12 ∷ 10 ∷ 8 ∷ []) $
+          by ! (loops 𝓣 known-newer known-figure q′ l₀ l₁ l₂ l₃ l₄ l₅ l₆ l₇ l₈ l₉ l₁₀))
 
       -- the MIR: the locals are made and the parameters passed
-      walk : ent 𝓤 (onEntry 𝓤 H A newest.signature (κ, tt) (q, tt) x at) (WpFn 𝓤 H (𝓣 .C) (𝓣 .Λ) code.function (sliceVal (b, o) n ∷ vint w64 asked ∷ vint w16 design ∷ []) Post)
+      walk : ent 𝓤 (onEntry 𝓤 H A newest.signature (κ, tt) (q, tt) x at) (WpFn 𝓤 H (𝓣 .C) (𝓣 .Λ) code.function (sliceVal (b, o) n ∷ vint w64 asked ∷ vint w16 design ∷ vint w64 period ∷ []) Post)
       walk =
-          qed W ((‵ (flft κ q) ⊛ ‵ ftrue) ∷ ‵ (owns (ShrSlice (named 0) κ R.the-row ∷ usize ∷ u16 ∷ []) x at) ∷ []) ∵ enter ! (𝓣 .C) (𝓣 .Λ) code.function (sliceVal (b, o) n ∷ vint w64 asked ∷ vint w16 design ∷ []) _ $
-          alloc1 ! (λ l₀. alloc1 ! (λ l₁. alloc1 ! (λ l₂. alloc1 ! (λ l₃. alloc1 ! (λ l₄. alloc1 ! (λ l₅. alloc1 ! (λ l₆. alloc1 ! (λ l₇. alloc1 ! (λ l₈. alloc1 ! (λ l₉. alloc0 ! $ params1 ! $
-          pass1 ! (init ! 16 refl (tt, (tt, (record { fits = gn .0 }, tt)))) $ pass1 ! (init ! 14 refl (tt, record { fits = ga })) $ pass1 ! (init ! 12 refl (tt, record { fits = gd })) $ pass0 ! $
-          enters l₀ l₁ l₂ l₃ l₄ l₅ l₆ l₇ l₈ l₉))))))))))
+          qed W ((‵ (flft κ q) ⊛ ‵ ftrue) ∷ ‵ (owns (ShrSlice (named 0) κ R.the-row ∷ usize ∷ u16 ∷ usize ∷ []) x at) ∷ []) ∵ enter ! (𝓣 .C) (𝓣 .Λ) code.function (sliceVal (b, o) n ∷ vint w64 asked ∷ vint w16 design ∷ vint w64 period ∷ []) _ $
+          alloc1 ! (λ l₀. alloc1 ! (λ l₁. alloc1 ! (λ l₂. alloc1 ! (λ l₃. alloc1 ! (λ l₄. alloc1 ! (λ l₅. alloc1 ! (λ l₆. alloc1 ! (λ l₇. alloc1 ! (λ l₈. alloc1 ! (λ l₉. alloc1 ! (λ l₁₀. alloc0 ! $ params1 ! $
+          pass1 ! (init ! 18 refl (tt, (tt, (record { fits = gn .0 }, tt)))) $ pass1 ! (init ! 16 refl (tt, record { fits = ga })) $ pass1 ! (init ! 14 refl (tt, record { fits = gd })) $ pass1 ! (init ! 12 refl (tt, record { fits = gp })) $ pass0 ! $
+          enters l₀ l₁ l₂ l₃ l₄ l₅ l₆ l₇ l₈ l₉ l₁₀)))))))))))
 
 module _ {M : Type 1} (𝓤 : URA M) (H : Heap 𝓤) (A : Atoms 𝓤) (W : Given 𝓤 H A) (mem : Memory → SProp 𝓤) (run : Routine → Fun 𝓤) (𝓣 : Tables 𝓤 H)
     (known-newer : Triple 𝓤 (𝓣 .C #newer) (Newer 𝓤 H A mem run)) (known-figure : Triple 𝓤 (𝓣 .C #figure) (Figured 𝓤 H A mem run)) where
   newest-walks : Walks 𝓤 H A newest.ended stayed (WpFn 𝓤 H (𝓣 .C) (𝓣 .Λ) code.function) (newest.clauses 𝓤 H A mem run)
   newest-walks = walked 𝓤 H A newest.ended stayed (newest.clauses 𝓤 H A mem run) (WpFn 𝓤 H (𝓣 .C) (𝓣 .Λ) code.function)
-      (λ κs. (slice-vals, (uint-vals w64, (uint-vals w16, tt)))) (λ κs. (shr-slice-tells (named 0) (κs .0) R.the-row, (uint-tells w64, (uint-tells w16, tt))))
+      (λ κs. (slice-vals, (uint-vals w64, (uint-vals w16, (uint-vals w64, tt))))) (λ κs. (shr-slice-tells (named 0) (κs .0) R.the-row, (uint-tells w64, (uint-tells w16, (uint-tells w64, tt)))))
       (λ κs qs bounds a g are. via 𝓤 _ (fst∗ 𝓤 _ (emp 𝓤))
-      (walk 𝓤 H A W mem run (κs .0) (qs .0) (a .0 .ptr .0) (a .0 .ptr .1) (a .0 .name) (a .0 .now) (a .1 .0) (a .1 .1 .0) (are .0 .0 .1) (are .1 .0 .1) (are .1 .1 .0 .1) 𝓣 known-newer known-figure))
+      (walk 𝓤 H A W mem run (κs .0) (qs .0) (a .0 .ptr .0) (a .0 .ptr .1) (a .0 .name) (a .0 .now) (a .1 .0) (a .1 .1 .0) (a .1 .1 .1 .0) (are .0 .0 .1) (are .1 .0 .1) (are .1 .1 .0 .1) (are .1 .1 .1 .0 .1) 𝓣 known-newer known-figure))
 
   newest-meets : Meets 𝓤 H A newest.signature (WpFn 𝓤 H (𝓣 .C) (𝓣 .Λ) code.function) (newest.spec 𝓤 H A mem run)
   newest-meets = walk-meets 𝓤 H A newest.ended stayed W
-      (goes-none-slice 𝓤 H A W 1 (0 ∷ []) tt (plain (λ _. R.the-row)) yes, (goes-none 𝓤 H A W 1 (λ _. usize) yes (λ κs x f. refl), (goes-none 𝓤 H A W 1 (λ _. u16) yes (λ κs x f. refl), tt)))
+      (goes-none-slice 𝓤 H A W 1 (0 ∷ []) tt (plain (λ _. R.the-row)) yes, (goes-none 𝓤 H A W 1 (λ _. usize) yes (λ κs x f. refl), (goes-none 𝓤 H A W 1 (λ _. u16) yes (λ κs x f. refl), (goes-none 𝓤 H A W 1 (λ _. usize) yes (λ κs x f. refl), tt))))
       (newest.clauses 𝓤 H A mem run) (WpFn 𝓤 H (𝓣 .C) (𝓣 .Λ) code.function) (WpFn-mono 𝓤 H (W .laws) 𝓣 code.function) newest-walks
 
 pub givendra-newest-count-spec : {M : Type 1} → stated.statement M

@@ -1,4 +1,4 @@
--- `givendra::newer_record` meets its contract: the record's three numbers are passed on, and its file day is not.
+-- `givendra::newer_record` meets its contract: the record's four numbers are passed on, and its file day is not.
 use borrow.Author.Needs.{needs}
 use Rattle.givendra.specs.LentList.{recordRank}
 use Rattle.givendra.proofs.newer_record.Statement.{statement}

@@ -1,4 +1,4 @@
--- A junction file is taken exactly where it is, field by field, what document 01 describes.
+-- A junction file is taken exactly where it is, field by field, what documents 01 and 02 describe.
 use Prim.Native.Nat.{ℕ, suc, _+_, _≤_, _<_}
 use native.Mathlib.Omega.{arith}
 use mathlib.Core.Bool.{true, false, and-eq-true-iff}
@@ -12,8 +12,7 @@ use Rattle.laws.specs.Ranges.{Between}
 use Rattle.laws.specs.Tests.{by-test}
 use Rattle.fields.specs.Bytes.{byteAt, fits}
 use Rattle.junction.specs.declared.Junction.{Junction}
-use Rattle.junction.specs.Layout.{headingLength}
-use Rattle.limits.specs.Limits.{mostStreams, mostZones, mostCounts}
+use Rattle.junction.specs.Layout.{headingLength, headingInRange}
 use Rattle.junction_places.specs.Blank.{blank}
 use Rattle.junction_questions.specs.lemmas.Passed.{BodyPassed, field-passed}
 use Rattle.junction_questions.specs.Questions.{inOrder, lengthRight, inRange, withinLimit, refers, countRefers}
@@ -25,12 +24,10 @@ use Rattle.junction_description.specs.lemmas.Steps.{Passes, begin, next}
 -- the fields read so far are right
 pub record Part (s : List ℕ) (j : Junction) (streams zones counts : ℕ) : Type 0 where
   pub holds : Holds s j streams zones counts
-  pub fewStreams : streams ≤ mostStreams
-  pub fewZones : zones ≤ mostZones
-  pub fewCounts : counts ≤ mostCounts
   pub within : (i : ℕ) → i < streams + zones + counts + 1 → fits s (place s i) ≡ true
   pub heading : tag s 0 ≡ 1
   pub headingLong : length (body s 0) ≡ headingLength
+  pub headingRanged : headingInRange (body s 0) ≡ true
   pub streamFields : (n : ℕ) → Between 1 streams n → StreamField s n
   pub zoneFields : (n : ℕ) → Between 1 zones n → ZoneField s streams (streams + n)
   pub countFields : (n : ℕ) → Between 1 counts n → CountField s streams (streams + zones + n)
@@ -52,12 +49,10 @@ module _ (s : List ℕ) where
   part-stream j n p fit low f =
       record {
         holds = holds-stream s j n (p .holds) low;
-        fewStreams = omega arith;
-        fewZones = omega arith;
-        fewCounts = omega arith;
         within = λ i h. one-fits s n (λ k l. p .within k (omega arith)) fit i (omega arith);
         heading = p .heading;
         headingLong = p .headingLong;
+        headingRanged = p .headingRanged;
         streamFields = one-more (StreamField s) n (p .streamFields) f;
         zoneFields = λ k w. absurd (omega arith);
         countFields = λ k w. absurd (omega arith);
@@ -68,13 +63,11 @@ module _ (s : List ℕ) where
   part-zone j n z p fit low f =
       let there : n + (z + 1) ≡ n + z + 1 = omega arith in
       record {
-        holds = holds-zone s j n z _ (p .holds);
-        fewStreams = p .fewStreams;
-        fewZones = omega arith;
-        fewCounts = omega arith;
+        holds = holds-zone s j n z (p .holds) low;
         within = λ i h. one-fits s (n + z) (λ k l. p .within k (omega arith)) fit i (omega arith);
         heading = p .heading;
         headingLong = p .headingLong;
+        headingRanged = p .headingRanged;
         streamFields = p .streamFields;
         zoneFields = one-more (λ k. ZoneField s n (n + k)) z (p .zoneFields) (rw there f);
         countFields = λ k w. absurd (omega arith);
@@ -86,12 +79,10 @@ module _ (s : List ℕ) where
       let there : n + z + (c + 1) ≡ n + z + c + 1 = omega arith in
       record {
         holds = holds-count s j n z c (p .holds) low;
-        fewStreams = p .fewStreams;
-        fewZones = p .fewZones;
-        fewCounts = omega arith;
         within = λ i h. one-fits s (n + z + c) (λ k l. p .within k (omega arith)) fit i (omega arith);
         heading = p .heading;
         headingLong = p .headingLong;
+        headingRanged = p .headingRanged;
         streamFields = p .streamFields;
         zoneFields = p .zoneFields;
         countFields = one-more (λ k. CountField s n (n + z + k)) c (p .countFields) (rw there f);
@@ -111,27 +102,26 @@ module _ (s : List ℕ) where
   Some i j = (n z c : ℕ) × (i ≡ n + z + c + 1) × Part s j n z c
 
   -- the heading
-  pub part-heading : fits s (place s 0) ≡ true → tag s 0 ≡ 1 → length (body s 0) ≡ headingLength → Part s (withHeading (body s 0) blank) 0 0 0
-  part-heading fit one long =
+  pub part-heading : fits s (place s 0) ≡ true → tag s 0 ≡ 1 → length (body s 0) ≡ headingLength → headingInRange (body s 0) ≡ true
+      → Part s (withHeading (body s 0) blank) 0 0 0
+  part-heading fit one long ranged =
       record {
         holds = holds-heading s;
-        fewStreams = omega arith;
-        fewZones = omega arith;
-        fewCounts = omega arith;
         within = λ i h. let first : i ≡ 0 = omega arith in rw first fit;
         heading = one;
         headingLong = long;
+        headingRanged = ranged;
         streamFields = λ k w. absurd (omega arith);
         zoneFields = λ k w. absurd (omega arith);
         countFields = λ k w. absurd (omega arith);
       }
 
   first-field : fits s (place s 0) ≡ true → BodyPassed (tag s 0) (body s 0) blank → Some 1 (withField (tag s 0) (body s 0) blank)
-  unfolding inOrder lengthRight withField
+  unfolding inOrder lengthRight inRange withField
   first-field fit b =
       let one : tag s 0 ≡ 1 = eqb-true _ _ (b .ordered) in
-      let long : length (body s 0) ≡ 4 = eqb-true _ _ (rw one at (b .long)) in
-      rw one (0, 0, 0, refl, part-heading fit one long)
+      let long : length (body s 0) ≡ headingLength = eqb-true _ _ (rw one at (b .long)) in
+      rw one (0, 0, 0, refl, part-heading fit one long (rw one at (b .ranged)))
 
   -- the fields after it
   module _ (j : Junction) (n z c i : ℕ) (at : i ≡ n + z + c + 1) (p : Part s j n z c) (fit : fits s (place s i) ≡ true)

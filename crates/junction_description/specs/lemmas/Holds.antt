@@ -6,33 +6,48 @@ use mathlib.Core.List.{List}
 use mathlib.Core.Logic.{_↔_}
 use mathlib.Core.Path.{_≡_, refl, sym, _∙_, ap}
 use lib.Dec.{eqb}
-use lib.ListN.{length, getD, set, length-set}
-use lib.Seq.{getD-set-same, getD-set-other}
+use lib.ListN.{replicate}
 use borrow.Author.Tests.{eqb-true, eqb-false, ne-eqb, lt-ltb, ltb-true, le-leb, leb-true, not-true}
+use Rattle.laws.specs.Filled.{filled, filled-next, filled-at}
 use Rattle.laws.specs.Ranges.{Between}
 use Rattle.laws.specs.Tests.{by-test, both, both-left, both-right}
 use Rattle.fields.specs.Bytes.{byteAt}
+use Rattle.counts.specs.declared.Count.{Count}
 use Rattle.streams.specs.declared.Stream.{Stream}
 use Rattle.junction.specs.declared.Junction.{Junction}
-use Rattle.junction.specs.Layout.{designDay, kindOf, carOf, tramOf, pedestrianOf, cyclistOf, islandOf, streamOf, countOf}
-use Rattle.limits.specs.Limits.{mostStreams, mostCounts}
-use Rattle.junction_places.specs.Blank.{noStream, noCount, blank}
+use Rattle.junction.specs.declared.Zone.{Zone}
+use Rattle.junction.specs.Layout.{designDay, plannedPeriod, kindOf, carOf, tramOf, pedestrianOf, cyclistOf, islandOf, streamOf, zoneOf, countOf}
+use Rattle.limits.specs.Limits.{mostStreams, mostZones, mostCounts}
+use Rattle.junction_places.specs.Blank.{noStream, noZone, noCount, blank}
 use Rattle.junction_questions.specs.Questions.{zoneRefers, carRefers, countRefers}
 use Rattle.junction_places.specs.Places.{streamAt, countAt, streamNumbered, numbered, numbered-at}
 use Rattle.streams.specs.Kinds.{isCar}
 use Rattle.junction_file.specs.Reading.{withHeading, withStream, withZone, withCount}
 use Rattle.junction_description.specs.File.{body}
 
+-- the places of streams, zones and counts with what so many fields say; the first zone and the first count follow so many other fields
+abbrev streamsIn : List ℕ → ℕ → List Stream
+streamsIn s many = filled (λ i. streamOf (body s (i + 1))) (replicate mostStreams noStream) many
+
+abbrev zonesIn : List ℕ → ℕ → ℕ → List Zone
+zonesIn s before many = filled (λ i. zoneOf (body s (before + i + 1))) (replicate mostZones noZone) many
+
+abbrev countsIn : List ℕ → ℕ → ℕ → List Count
+countsIn s before many = filled (λ i. countOf (body s (before + i + 1))) (replicate mostCounts noCount) many
+
 -- the heading, so many streams, zones and counts were read
 pub record Holds (s : List ℕ) (j : Junction) (streams zones counts : ℕ) : Type 0 where
   pub streamsHeld : j .held .streams ≡ streams
   pub zonesHeld : j .held .zones ≡ zones
   pub countsHeld : j .held .counts ≡ counts
+  pub fewStreams : streams ≤ mostStreams
+  pub fewZones : zones ≤ mostZones
+  pub fewCounts : counts ≤ mostCounts
   pub day : j .day ≡ designDay (body s 0)
-  pub streamPlaces : length (j .streams) ≡ mostStreams
-  pub countPlaces : length (j .counts) ≡ mostCounts
-  pub stream : (k : ℕ) → k < streams → streamAt j k ≡ streamOf (body s (k + 1))
-  pub count : (k : ℕ) → k < counts → countAt j k ≡ countOf (body s (streams + zones + k + 1))
+  pub period : j .period ≡ plannedPeriod (body s 0)
+  pub streamPlaces : j .streams ≡ streamsIn s streams
+  pub zonePlaces : j .zones ≡ zonesIn s streams zones
+  pub countPlaces : j .counts ≡ countsIn s (streams + zones) counts
   -- the tag of the last field is that of the last sort of which there is one
   pub some : Between 1 4 (j .held .last)
   pub noZones : j .held .last ≤ 2 → zones ≡ 0
@@ -40,26 +55,22 @@ pub record Holds (s : List ℕ) (j : Junction) (streams zones counts : ℕ) : Ty
   pub atStreams : zones ≡ 0 → counts ≡ 0 → j .held .last ≤ 2
   pub atZones : counts ≡ 0 → j .held .last ≤ 3
 
--- one more set behind the first n
-set-places : {A : Type 0} (f : ℕ → A) (l : List A) (n : ℕ) (x d : A) → n < length l → ((i : ℕ) → i < n → getD l i d ≡ f i) → x ≡ f n
-    → (i : ℕ) → i < n + 1 → getD (set l n x) i d ≡ f i
-set-places f l n x d room old new i h =
-    by-test (eqb i n) (λ e. let same : i ≡ n = eqb-true _ _ e in rw (same, getD-set-same l n x d room) new)
-    (λ e. let differ = eqb-false _ _ e in getD-set-other l n i x d differ ∙ old i (omega arith))
-
 module _ (s : List ℕ) where
   pub holds-heading : Holds s (withHeading (body s 0) blank) 0 0 0
-  unfolding withHeading
+  unfolding withHeading filled
   holds-heading =
       record {
         streamsHeld = refl;
         zonesHeld = refl;
         countsHeld = refl;
+        fewStreams = omega arith;
+        fewZones = omega arith;
+        fewCounts = omega arith;
         day = refl;
+        period = refl;
         streamPlaces = refl;
+        zonePlaces = refl;
         countPlaces = refl;
-        stream = λ k h. absurd (omega arith);
-        count = λ k h. absurd (omega arith);
         some = omega arith;
         noZones = λ h. refl;
         noCounts = λ h. refl;
@@ -68,20 +79,20 @@ module _ (s : List ℕ) where
       }
 
   pub holds-stream : (j : Junction) (n : ℕ) → Holds s j n 0 0 → n < 16 → Holds s (withStream (body s (n + 1)) j) (n + 1) 0 0
-  unfolding withStream streamAt
+  unfolding withStream filled
   holds-stream j n r low =
       record {
         streamsHeld = ap (λ k. k + 1) (r .streamsHeld);
         zonesHeld = r .zonesHeld;
         countsHeld = r .countsHeld;
+        fewStreams = omega arith;
+        fewZones = omega arith;
+        fewCounts = omega arith;
         day = r .day;
-        streamPlaces = rw length-set (r .streamPlaces);
+        period = r .period;
+        streamPlaces = rw (r .streamsHeld, r .streamPlaces, filled-next (λ i. streamOf (body s (i + 1))) (replicate mostStreams noStream) n);
+        zonePlaces = r .zonePlaces;
         countPlaces = r .countPlaces;
-        stream = λ k h.
-            rw (lt-ltb k 16 (omega arith), r .streamsHeld)
-            (set-places (λ i. streamOf (body s (i + 1))) (j .streams) n _ noStream (omega (arith, r .streamPlaces))
-            (λ i l. rw (lt-ltb i 16 (omega arith)) at (r .stream i l)) refl k h);
-        count = λ k h. absurd (omega arith);
         some = omega arith;
         noZones = λ h. refl;
         noCounts = λ h. refl;
@@ -89,18 +100,21 @@ module _ (s : List ℕ) where
         atZones = λ a. omega arith;
       }
 
-  pub holds-zone : (j : Junction) (n z : ℕ) (b : List ℕ) → Holds s j n z 0 → Holds s (withZone b j) n (z + 1) 0
-  unfolding withZone streamAt
-  holds-zone j n z b r =
+  pub holds-zone : (j : Junction) (n z : ℕ) → Holds s j n z 0 → z < 64 → Holds s (withZone (body s (n + z + 1)) j) n (z + 1) 0
+  unfolding withZone filled
+  holds-zone j n z r low =
       record {
         streamsHeld = r .streamsHeld;
         zonesHeld = ap (λ k. k + 1) (r .zonesHeld);
         countsHeld = r .countsHeld;
+        fewStreams = r .fewStreams;
+        fewZones = omega arith;
+        fewCounts = omega arith;
         day = r .day;
+        period = r .period;
         streamPlaces = r .streamPlaces;
+        zonePlaces = rw (r .zonesHeld, r .zonePlaces, filled-next (λ i. zoneOf (body s (n + i + 1))) (replicate mostZones noZone) z);
         countPlaces = r .countPlaces;
-        stream = r .stream;
-        count = λ k h. absurd (omega arith);
         some = omega arith;
         noZones = λ h. absurd (omega arith);
         noCounts = λ h. refl;
@@ -109,20 +123,20 @@ module _ (s : List ℕ) where
       }
 
   pub holds-count : (j : Junction) (n z c : ℕ) → Holds s j n z c → c < 128 → Holds s (withCount (body s (n + z + c + 1)) j) n z (c + 1)
-  unfolding withCount streamAt countAt
+  unfolding withCount
   holds-count j n z c r low =
       record {
         streamsHeld = r .streamsHeld;
         zonesHeld = r .zonesHeld;
         countsHeld = ap (λ k. k + 1) (r .countsHeld);
+        fewStreams = r .fewStreams;
+        fewZones = r .fewZones;
+        fewCounts = omega arith;
         day = r .day;
+        period = r .period;
         streamPlaces = r .streamPlaces;
-        countPlaces = rw length-set (r .countPlaces);
-        stream = r .stream;
-        count = λ k h.
-            rw (lt-ltb k 128 (omega arith), r .countsHeld)
-            (set-places (λ i. countOf (body s (n + z + i + 1))) (j .counts) c _ noCount (omega (arith, r .countPlaces))
-            (λ i l. rw (lt-ltb i 128 (omega arith)) at (r .count i l)) refl k h);
+        zonePlaces = r .zonePlaces;
+        countPlaces = rw (r .countsHeld, r .countPlaces, filled-next (λ i. countOf (body s (n + z + i + 1))) (replicate mostCounts noCount) c);
         some = omega arith;
         noZones = λ h. absurd (omega arith);
         noCounts = λ h. absurd (omega arith);
@@ -143,10 +157,19 @@ kind-car b =
     (λ n5. rw (n1, n2, n3, n4, n5) (λ t. absurd (false≢true t), λ k. absurd (other k)))))))
 
 module _ (s : List ℕ) (j : Junction) (streams zones counts : ℕ) (r : Holds s j streams zones counts) where
+  -- what stands at a place
+  pub stream-there : (k : ℕ) → k < streams → streamAt j k ≡ streamOf (body s (k + 1))
+  unfolding streamAt
+  stream-there k h = rw (lt-ltb k 16 (omega (arith, r .fewStreams)), r .streamPlaces) (filled-at _ _ streams k noStream h (r .fewStreams))
+
+  pub count-there : (k : ℕ) → k < counts → countAt j k ≡ countOf (body s (streams + zones + k + 1))
+  unfolding countAt
+  count-there k h = rw (lt-ltb k 128 (omega (arith, r .fewCounts)), r .countPlaces) (filled-at _ _ counts k noCount h (r .fewCounts))
+
   stream-is : (n : ℕ) → Between 1 streams n → streamNumbered j n ≡ streamOf (body s n)
   stream-is n w =
       let there : n - 1 + 1 ≡ n = omega arith in
-      numbered-at j n (w .0) ∙ r .stream (n - 1) (omega arith) ∙ ap (λ k. streamOf (body s k)) there
+      numbered-at j n (w .0) ∙ stream-there (n - 1) (omega arith) ∙ ap (λ k. streamOf (body s k)) there
 
   pub phase-is : (n : ℕ) → Between 1 streams n → streamNumbered j n .phase ≡ byteAt (body s n) 1
   unfolding streamOf

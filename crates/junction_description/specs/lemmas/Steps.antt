@@ -81,8 +81,6 @@ module _ (s : List ℕ) where
       let end = (rw (← within-size h) at all-passes) v in
       record { size = h; fields = end .0; passes = end .1; end = end .2; whole = end .3 }
 
-  -- the other way
-  pub read-taken : length s ≤ mostBytes → (n : ℕ) (j : Junction) → Passes s n j → length s ≤ place s n → wholeVerdict (length s) j ≡ Passed
-      → reading s .verdict ≡ Passed
-  unfolding atEnd
-  read-taken h n j p high e = ap (λ r. r .verdict) (within-size h ∙ sym (rest-ends s (place s n) j (rest p) high)) ∙ e
+  -- the other way: after all fields the questions of the whole are asked
+  pub read-all : length s ≤ mostBytes → (n : ℕ) (j : Junction) → Passes s n j → length s ≤ place s n → reading s ≡ atEnd (length s) j
+  read-all h n j p high = within-size h ∙ sym (rest-ends s (place s n) j (rest p) high)

@@ -151,21 +151,22 @@ shorter : (c : tie.Else4 Inv-loop μ-loop) → length (file (turn c)) - turn c .
 shorter c = omega (arith, turn c .before .before .loop-test .taken, begins (turn c))
 
 loop-less : tie.Need-loop-less Inv-loop μ-loop
-loop-less c = shorter (c .before .before .before)
+loop-less c = shorter (c .before .before .before .before)
 
 loop-again : tie.Need-loop-again Inv-loop μ-loop
 unfolding withField withHeading byteAt
 loop-again c =
-    rw (c .before .design-day .ensures, body-is (turn (c .before .before .before)))
-    (simp (eq-eqb _ _ (c .before .before .if5 .taken)) at (turned (c .before .before .before)))
+    let tags = c .before .before .before in
+    rw (c .before .planned-period .ensures, c .before .before .design-day .ensures, body-is (turn (tags .before)))
+    (simp (eq-eqb _ _ (tags .if5 .taken)) at (turned (tags .before)))
 
 element-set-from-j : tie.Need-element-set-from-j Inv-loop μ-loop
 unfolding withinLimit byteAt
 element-set-from-j c =
     ltb-true _ _ (simp (ne-eqb _ _ (c .before .before .if5 .left), eq-eqb _ _ (c .before .if6 .taken)) at (limited (c .before .before .before)))
 
-mul-t40 : tie.Need-mul-t40 Inv-loop μ-loop
-mul-t40 c = record { fits = omega (arith, element-set-from-j c) }
+mul-t41 : tie.Need-mul-t41 Inv-loop μ-loop
+mul-t41 c = record { fits = omega (arith, element-set-from-j c) }
 
 add-j : tie.Need-add-j Inv-loop μ-loop
 add-j c = omega (arith, element-set-from-j (c .before))
@@ -187,8 +188,8 @@ element-set-from-j-2 c =
     ltb-true _ _ (simp (ne-eqb _ _ (tags .before .before .if5 .left), ne-eqb _ _ (tags .before .if6 .left), eq-eqb _ _ (tags .if7 .taken))
     at (limited (tags .before .before .before)))
 
-mul-t44 : tie.Need-mul-t44 Inv-loop μ-loop
-mul-t44 c = record { fits = omega (arith, element-set-from-j-2 c) }
+mul-t45 : tie.Need-mul-t45 Inv-loop μ-loop
+mul-t45 c = record { fits = omega (arith, element-set-from-j-2 c) }
 
 add-j-2 : tie.Need-add-j-2 Inv-loop μ-loop
 add-j-2 c = omega (arith, element-set-from-j-2 (c .before))
@@ -237,6 +238,6 @@ read-fields-spec =
     (tie.spec Inv-loop μ-loop (λ c κs. tt) loop-holds field-end-requires returns shared-slice-read-tag add-body sub-body
     part-body-start part-body-end (λ c κs. tt) (λ c κs. tt) (λ c κs. tt) (λ c κs. tt) (λ c. search needs) element-copy-out-first
     (λ c κs. tt) (λ c. search needs) element-copy-out-second (λ c κs. tt) (λ c κs. tt) (λ c κs. tt) returns-2 (λ c κs. tt)
-    loop-less loop-again (λ c κs. tt) mul-t40 element-set-from-j add-j loop-less-2 loop-again-2 (λ c κs. tt) mul-t44
+    (λ c κs. tt) loop-less loop-again (λ c κs. tt) mul-t41 element-set-from-j add-j loop-less-2 loop-again-2 (λ c κs. tt) mul-t45
     element-set-from-j-2 add-j-2 loop-less-3 loop-again-3 (λ c κs. tt) mul-t24 element-set-from-j-3 add-j-3 loop-less-4
     loop-again-4 (λ c κs. tt) returns-3)

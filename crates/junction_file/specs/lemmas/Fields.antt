@@ -2,7 +2,7 @@
 use Prim.Native.Nat.{ℕ, zero, suc, _+_, _-_, _≤_, _<_, zero-le}
 use native.Mathlib.Nat.{pos-of-ne-zero, add-zero}
 use native.Mathlib.Omega.{arith}
-use mathlib.Core.Bool.{Bool, true, not, and-eq-true-iff, true≢false, false≢true}
+use mathlib.Core.Bool.{Bool, true, false, not, and-eq-true-iff, true≢false, false≢true}
 use mathlib.Core.List.{List}
 use mathlib.Core.Logic.{_↔_, _⊎_, inl, inr, ⊎-elim}
 use mathlib.Core.Path.{_≡_, refl, sym, _∙_, ap}
@@ -13,20 +13,20 @@ use borrow.Author.Tests.{leb-true, leb-false, ltb-true, ltb-false, eqb-true, eqb
 use Rattle.laws.specs.Ranges.{Between, everyOf, every-at}
 use Rattle.laws.specs.Search.{firstBelow, first-range, first-passes, first-fails}
 use Rattle.laws.specs.Tests.{by-test, either}
-use Rattle.limits.specs.Limits.{mostBytes, mostPhases}
+use Rattle.limits.specs.Limits.{leastPeriod, greatestPeriod, mostBytes, mostPhases}
 use Rattle.fields.specs.Bytes.{byteAt, numberAt, byteIn, numberIn, fieldEnd}
 use Rattle.fields.specs.Verdict.{isRefused, ask-passed}
 use Rattle.fields.specs.declared.Verdict.the-variants.{Passed}
-use Rattle.junction.specs.declared.Count.{Count}
+use Rattle.counts.specs.declared.Count.{Count}
 use Rattle.junction.specs.declared.Junction.{Junction}
 use Rattle.junction.specs.declared.Reading.{Reading}
 use Rattle.junction.specs.declared.Side.{Side}
 use Rattle.junction.specs.declared.Zone.{Zone}
-use Rattle.junction.specs.Layout.{radiusInRange, sharesInRange, carInRange, carOf, tramInRange, tramOf, pedestrianInRange, walkOf, pedestrianOf}
+use Rattle.junction.specs.Layout.{plannedPeriod, headingInRange, radiusInRange, sharesInRange, carInRange, carOf, tramInRange, tramOf, pedestrianInRange, walkOf, pedestrianOf}
 use Rattle.junction.specs.Layout.{cyclistInRange, cyclistOf, islandInRange, islandOf, streamInRange, kindOf, streamOf, zoneInRange, zoneOf, countInRange, countOf}
 use Rattle.junction_places.specs.Blank.{noStream, noZone, noCount, blank}
 use Rattle.junction_questions.specs.lemmas.Passed.{BodyPassed, field-passed}
-use Rattle.junction_questions.specs.Questions.{inRange, withinLimit, refers, zoneRefers, carRefers, namedBy, fieldVerdict}
+use Rattle.junction_questions.specs.Questions.{inOrder, inRange, withinLimit, refers, zoneRefers, carRefers, namedBy, fieldVerdict}
 use Rattle.junction_questions.specs.Questions.{inPhase, firstInPhase, phaseUsed, phaseFollows, phasesRight, carAt, firstCar, lacksCount, firstLacking, countsVerdict, wholeVerdict}
 use Rattle.junction_places.specs.Places.{streamAt, countAt, zoneAt, streamNumbered, numbered-at, numbered}
 use Rattle.streams.specs.Kinds.{isCar}
@@ -35,6 +35,17 @@ use Rattle.junction_file.specs.Chosen.{chosen}
 use Rattle.junction_file.specs.Reading.{withHeading, withStream, withZone, withCount, withField, afterField, readField, atEnd, readFrom, reading}
 use Rattle.junction_file.specs.lemmas.Rest.{passed-field}
 use Rattle.junction_file.specs.Taken.{PedestrianRanges, StreamInRange, SideRight, ZoneRight, CountRight, FieldsRight, UsedPhase, PhasesRight, HasCar, HasFlow}
+
+-- question 5 of a heading
+heading-ranged : (b : List ℕ) → headingInRange b ≡ true → Between leastPeriod greatestPeriod (plannedPeriod b)
+unfolding headingInRange plannedPeriod byteIn
+heading-ranged b h = let facts = simp and-eq-true-iff at h in omega (arith, leb-true)
+
+-- question 3: a field that is no heading comes after one
+heading-before : (last tag : ℕ) → inOrder last tag ≡ true → eqb tag 1 ≡ false → 0 < last
+unfolding inOrder
+heading-before last tag e other =
+    pos-of-ne-zero (λ (none : last ≡ 0). true≢false (sym (rw none at e) ∙ other))
 
 -- question 5 of a stream: a body in range gives figures in range
 car-ranges : (b : List ℕ) → carInRange b ≡ true → StreamInRange (record { phase = byteAt b 1; kind = carOf b })
@@ -116,11 +127,11 @@ zone-right b j h e =
     }
 
 count-right : (b : List ℕ) (j : Junction) → countInRange b ≡ true → carRefers (j .held .streams) (byteAt b 0) (namedBy j b 0) ≡ true → CountRight j (countOf b)
-unfolding countInRange countOf numberIn carRefers numbered
+unfolding countInRange countOf numberIn byteIn carRefers numbered
 count-right b j h e =
     let ranged = simp and-eq-true-iff at h in
     let facts = simp and-eq-true-iff at e in
-    record { existing = omega (arith, leb-true); car = facts .1; flow = omega (arith, leb-true) }
+    record { existing = omega (arith, leb-true); car = facts .1; flow = omega (arith, leb-true); period = omega (arith, leb-true) }
 
 -- what is right of a zone or a count stays so where the streams that there are stay as they are
 record Grown (j k : Junction) : Type 0 where
@@ -149,6 +160,7 @@ module _ (j k : Junction) (g : Grown j k) where
         existing = omega arith;
         car = rw (numbered-same (c .stream) (r .existing)) (r .car);
         flow = r .flow;
+        period = r .period;
       }
 
 -- where one more is set behind the first n, what holds of those and of it holds of all
@@ -163,9 +175,9 @@ module _ (b : List ℕ) (j : Junction) (r : FieldsRight j) where
   unfolding withHeading streamAt
   heading-grown = record { more = omega arith; same = λ i h. refl }
 
-  with-heading-right : FieldsRight (withHeading b j)
+  with-heading-right : headingInRange b ≡ true → FieldsRight (withHeading b j)
   unfolding withHeading streamAt countAt zoneAt
-  with-heading-right =
+  with-heading-right h =
       record {
         streamPlaces = r .streamPlaces;
         zonePlaces = r .zonePlaces;
@@ -173,6 +185,8 @@ module _ (b : List ℕ) (j : Junction) (r : FieldsRight j) where
         fewStreams = r .fewStreams;
         fewZones = r .fewZones;
         fewCounts = r .fewCounts;
+        headed = λ some. omega arith;
+        period = λ read. heading-ranged b h;
         streams = r .streams;
         zones = λ i h. zone-grown j (withHeading b j) heading-grown _ (r .zones i h);
         counts = λ i h. count-grown j (withHeading b j) heading-grown _ (r .counts i h);
@@ -186,9 +200,9 @@ module _ (b : List ℕ) (j : Junction) (r : FieldsRight j) where
         same = λ i h. rw (getD-set-other (j .streams) (j .held .streams) i (streamOf b) noStream (omega arith));
       }
 
-  with-stream-right : streamInRange b ≡ true → j .held .streams < 16 → FieldsRight (withStream b j)
+  with-stream-right : 0 < j .held .last → streamInRange b ≡ true → j .held .streams < 16 → FieldsRight (withStream b j)
   unfolding withStream streamAt countAt zoneAt
-  with-stream-right h room =
+  with-stream-right headed h room =
       record {
         streamPlaces = rw length-set (r .streamPlaces);
         zonePlaces = r .zonePlaces;
@@ -196,6 +210,8 @@ module _ (b : List ℕ) (j : Junction) (r : FieldsRight j) where
         fewStreams = omega arith;
         fewZones = r .fewZones;
         fewCounts = r .fewCounts;
+        headed = λ some. omega arith;
+        period = λ read. r .period headed;
         streams = λ i l.
             rw (lt-ltb i 16 (omega arith))
             (places StreamInRange (j .streams) (j .held .streams) (streamOf b) noStream (omega (arith, r .streamPlaces))
@@ -208,10 +224,10 @@ module _ (b : List ℕ) (j : Junction) (r : FieldsRight j) where
   unfolding withZone streamAt
   zones-grown = record { more = omega arith; same = λ i h. refl }
 
-  with-zone-right : zoneInRange b ≡ true → j .held .zones < 64
+  with-zone-right : 0 < j .held .last → zoneInRange b ≡ true → j .held .zones < 64
       → zoneRefers (j .held .streams) (byteAt b 0) (byteAt b 1) (namedBy j b 0) (namedBy j b 1) ≡ true → FieldsRight (withZone b j)
   unfolding withZone streamAt countAt zoneAt
-  with-zone-right h room e =
+  with-zone-right headed h room e =
       let grown = zone-grown j (withZone b j) zones-grown in
       record {
         streamPlaces = r .streamPlaces;
@@ -220,6 +236,8 @@ module _ (b : List ℕ) (j : Junction) (r : FieldsRight j) where
         fewStreams = r .fewStreams;
         fewZones = omega arith;
         fewCounts = r .fewCounts;
+        headed = λ some. omega arith;
+        period = λ read. r .period headed;
         streams = r .streams;
         zones = λ i l.
             rw (lt-ltb i 64 (omega arith))
@@ -232,9 +250,9 @@ module _ (b : List ℕ) (j : Junction) (r : FieldsRight j) where
   unfolding withCount streamAt
   counts-grown = record { more = omega arith; same = λ i h. refl }
 
-  with-count-right : countInRange b ≡ true → j .held .counts < 128 → carRefers (j .held .streams) (byteAt b 0) (namedBy j b 0) ≡ true → FieldsRight (withCount b j)
+  with-count-right : 0 < j .held .last → countInRange b ≡ true → j .held .counts < 128 → carRefers (j .held .streams) (byteAt b 0) (namedBy j b 0) ≡ true → FieldsRight (withCount b j)
   unfolding withCount streamAt countAt zoneAt
-  with-count-right h room e =
+  with-count-right headed h room e =
       let grown = count-grown j (withCount b j) counts-grown in
       record {
         streamPlaces = r .streamPlaces;
@@ -243,6 +261,8 @@ module _ (b : List ℕ) (j : Junction) (r : FieldsRight j) where
         fewStreams = r .fewStreams;
         fewZones = r .fewZones;
         fewCounts = omega arith;
+        headed = λ some. omega arith;
+        period = λ read. r .period headed;
         streams = r .streams;
         zones = λ i h. zone-grown j (withCount b j) counts-grown _ (r .zones i h);
         counts = λ i l.
@@ -254,15 +274,16 @@ module _ (b : List ℕ) (j : Junction) (r : FieldsRight j) where
 pub with-field-right : (tag : ℕ) (b : List ℕ) (j : Junction) → BodyPassed tag b j → FieldsRight j → FieldsRight (withField tag b j)
 unfolding withField inRange withinLimit refers
 with-field-right tag b j p r =
-    by-test (eqb tag 1) (λ e. rw e (with-heading-right b j r))
-    (λ n1. by-test (eqb tag 2)
-    (λ e. rw (n1, e) (with-stream-right b j r (rw (n1, e) at (p .ranged)) (ltb-true _ _ (rw (n1, e) at (p .limited)))))
+    by-test (eqb tag 1) (λ e. rw e (with-heading-right b j r (rw e at (p .ranged))))
+    (λ n1. let headed = heading-before _ tag (p .ordered) n1 in
+    by-test (eqb tag 2)
+    (λ e. rw (n1, e) (with-stream-right b j r headed (rw (n1, e) at (p .ranged)) (ltb-true _ _ (rw (n1, e) at (p .limited)))))
     (λ n2. by-test (eqb tag 3)
     (λ e. rw (n1, n2, e)
-    (with-zone-right b j r (rw (n1, n2, e) at (p .ranged)) (ltb-true _ _ (rw (n1, n2, e) at (p .limited)))
+    (with-zone-right b j r headed (rw (n1, n2, e) at (p .ranged)) (ltb-true _ _ (rw (n1, n2, e) at (p .limited)))
     (rw (n1, n2, e) at (p .referring))))
     (λ n3. rw (n1, n2, n3)
-    (with-count-right b j r (rw (n1, n2, n3) at (p .ranged)) (ltb-true _ _ (rw (n1, n2, n3) at (p .limited)))
+    (with-count-right b j r headed (rw (n1, n2, n3) at (p .ranged)) (ltb-true _ _ (rw (n1, n2, n3) at (p .limited)))
     (rw (n1, n2, n3) at (p .referring))))))
 
 pub blank-right : FieldsRight blank
@@ -274,6 +295,8 @@ blank-right =
       fewStreams = omega arith;
       fewZones = omega arith;
       fewCounts = omega arith;
+      headed = λ some. absurd (omega arith);
+      period = λ read. absurd (omega arith);
       streams = λ i h. absurd (omega arith);
       zones = λ i h. absurd (omega arith);
       counts = λ i h. absurd (omega arith);
@@ -381,7 +404,7 @@ whole-car j e =
     let low = ltb-true _ _ e in
     record { place = firstCar j; held = low; car = first-passes (carAt j) (j .held .streams) 0 zero-le low }
 
--- question 9: has each car a usable count?
+-- question 9: has each car a usable count in the period?
 pub car-flow : (j : Junction) → countsVerdict j ≡ Passed → (i : ℕ) → i < j .held .streams → isCar (streamAt j i .kind) ≡ true → HasFlow j (i + 1)
 unfolding countsVerdict firstLacking lacksCount carAt
 car-flow j v i h car =

@@ -44,5 +44,5 @@ returns c =
 pub newest-rank-spec : {M : Type 1} → statement M
 newest-rank-spec =
     tie.close
-    (tie.spec Inv-loop μ-loop loop-holds (λ c. search needs) element-copy-out-c (λ c κs. tt) (λ c κs. tt) (λ c. omega arith)
-    (λ c. omega arith) loop-again returns)
+    (tie.spec Inv-loop μ-loop loop-holds (λ c. search needs) element-copy-out-c (λ c κs. tt) (λ c. search needs) (λ c κs. tt)
+    (λ c. omega arith) (λ c. omega arith) loop-again returns)

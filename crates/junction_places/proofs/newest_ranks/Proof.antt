@@ -47,5 +47,5 @@ pub newest-ranks-spec : {M : Type 1} → statement M
 newest-ranks-spec =
     tie.close
     (tie.spec Inv-loop μ-loop loop-holds (λ c. search needs) element-copy-out-c (λ c κs. tt) (λ c. search needs)
-    (λ c. search needs) (λ c. search needs) (λ c κs. tt) (λ c. search needs) (λ c. search needs) (λ c. omega arith)
-    (λ c. omega arith) loop-again returns)
+    (λ c. search needs) (λ c. search needs) (λ c. search needs) (λ c κs. tt) (λ c. search needs) (λ c. search needs)
+    (λ c. omega arith) (λ c. omega arith) loop-again returns)

@@ -7,10 +7,10 @@ use Rattle.junction.specs.declared.Junction.{Junction}
 use Rattle.junction_questions.specs.Questions.{inPhase, firstInPhase, phaseUsed, phaseFollows, phasesRight, carAt, firstCar}
 use Rattle.junction_places.specs.Places.{streamAt}
 
--- a junction of streams alone; of its day, zones and counts question 8 says nothing
+-- a junction of streams alone; of its day, period, zones and counts question 8 says nothing
 abbrev pub ofStreams : ℕ → List Stream → Junction
 ofStreams n streams =
-    record { day = 0; held = record { last = 0; streams = n; zones = 0; counts = 0 }; streams = streams; zones = []; counts = [] }
+    record { day = 0; period = 0; held = record { last = 0; streams = n; zones = 0; counts = 0 }; streams = streams; zones = []; counts = [] }
 
 module _ (j : Junction) where
   pub phases-of-streams : phasesRight (ofStreams (j .held .streams) (j .streams)) ≡ phasesRight j
