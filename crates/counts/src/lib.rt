@@ -16,7 +16,7 @@ pub struct Count {
     pub period: u8,
 }
 
-// What a count is asked for: a car stream's number, the design day, a period. A number is as wide as a caller can hand it in.
+// What is asked for: a count of this car stream, not after this day, in this period. Each number is as wide as a caller can hand it in.
 pub struct Wanted {
     pub stream: usize,
     pub day: u16,

@@ -98,15 +98,25 @@ module _ {M : Type 1} (𝓤 : URA M) (H : Heap 𝓤) (A : Atoms 𝓤) (mem : Mem
   abbrev Figured : Contract 𝓤
   Figured = tripleOf 𝓤 H A figure.signature (figure.spec 𝓤 H A mem run)
 
+  -- what is known of an answer after the call
+  abbrev AfterNewer : (best asked design period : ℕ) → CountRecord → ℕ → SProp 𝓤
+  AfterNewer best asked design period x r = ensured 𝓤 H A newer.ended (newer.clauses 𝓤 H A mem run) tt (best, (asked, (design, (period, (x, tt))))) tt r
+
   newer-of : (best asked design period : ℕ) (x : CountRecord) (r : ℕ)
-      → ent 𝓤 (ensured 𝓤 H A newer.ended (newer.clauses 𝓤 H A mem run) tt (best, (asked, (design, (period, (x, tt))))) tt r) (fact 𝓤 (r ≡ max best (recordRank (wanted asked design period) x)))
-  newer-of best asked design period x r = exE 𝓤 _ (λ ws. snd∗ 𝓤 (sem 𝓤 H A (lasts newer.ended tt (best, (asked, (design, (period, (x, tt))))) ws)) (fact 𝓤 (r ≡ max best (recordRank (wanted asked design period) x))))
+      → ent 𝓤 (AfterNewer best asked design period x r) (fact 𝓤 (r ≡ max best (recordRank (wanted asked design period) x)))
+  newer-of best asked design period x r =
+      exE 𝓤 _ (λ ws. snd∗ 𝓤 (sem 𝓤 H A (lasts newer.ended tt (best, (asked, (design, (period, (x, tt))))) ws))
+      (fact 𝓤 (r ≡ max best (recordRank (wanted asked design period) x))))
+
+  abbrev AfterFigure : (asked best : ℕ) → Figure → SProp 𝓤
+  AfterFigure asked best r = ensured 𝓤 H A figure.ended (figure.clauses 𝓤 H A mem run) tt (asked, (best, tt)) tt r
 
   figure-of : (asked best : ℕ) (r : Figure)
-      → ent 𝓤 (ensured 𝓤 H A figure.ended (figure.clauses 𝓤 H A mem run) tt (asked, (best, tt)) tt r) (fact 𝓤 (r ≡ newestFigure asked best))
+      → ent 𝓤 (AfterFigure asked best r) (fact 𝓤 (r ≡ newestFigure asked best))
   figure-of asked best r = exE 𝓤 _ (λ ws. snd∗ 𝓤 (sem 𝓤 H A (lasts figure.ended tt (asked, (best, tt)) ws)) (fact 𝓤 (r ≡ newestFigure asked best)))
 
-module _ {M : Type 1} (𝓤 : URA M) (H : Heap 𝓤) (A : Atoms 𝓤) (W : Given 𝓤 H A) (mem : Memory → SProp 𝓤) (run : Routine → Fun 𝓤) (κ : Lft) (q : Share) (b o : ℕ) (γ : GName) (ys : List CountRecord) (asked design period : ℕ) where
+module _ {M : Type 1} (𝓤 : URA M) (H : Heap 𝓤) (A : Atoms 𝓤) (W : Given 𝓤 H A) (mem : Memory → SProp 𝓤) (run : Routine → Fun 𝓤)
+    (κ : Lft) (q : Share) (b o : ℕ) (γ : GName) (ys : List CountRecord) (asked design period : ℕ) where
   abbrev n : ℕ
   n = length ys
 
@@ -122,9 +132,12 @@ module _ {M : Type 1} (𝓤 : URA M) (H : Heap 𝓤) (A : Atoms 𝓤) (W : Given
   abbrev Post : Val → SProp 𝓤
   Post = walkOf 𝓤 H A newest.ended stayed (newest.clauses 𝓤 H A mem run) .post bound
 
-  -- the rank of the record at i, and the highest rank of the first i records
+  -- the record at i, its rank, and the highest rank of the first i records
+  abbrev item : ℕ → CountRecord
+  item i = recordAt ys i
+
   abbrev rankOf : ℕ → ℕ
-  rankOf i = recordRank (wanted asked design period) (recordAt ys i)
+  rankOf i = recordRank (wanted asked design period) (item i)
 
   abbrev top : ℕ → ℕ
   top i = largestOf rankOf i
@@ -149,7 +162,8 @@ module _ {M : Type 1} (𝓤 : URA M) (H : Heap 𝓤) (A : Atoms 𝓤) (W : Given
 
     -- the locals and where they lie
     abbrev Locals : (l₀ l₁ l₂ l₃ l₄ l₅ l₆ l₇ l₈ l₉ l₁₀ : ℕ) → Env 𝓤 H
-    Locals l₀ l₁ l₂ l₃ l₄ l₅ l₆ l₇ l₈ l₉ l₁₀ = (F′.mir, l₀) ∷ (slice, l₁) ∷ (word, l₂) ∷ (short, l₃) ∷ (word, l₄) ∷ (half, l₅) ∷ (word, l₆) ∷ (word, l₇) ∷ (tyBool, l₈) ∷ (tyPtr, l₉) ∷ (R′.mir, l₁₀) ∷ []
+    Locals l₀ l₁ l₂ l₃ l₄ l₅ l₆ l₇ l₈ l₉ l₁₀ =
+        (F′.mir, l₀) ∷ (slice, l₁) ∷ (word, l₂) ∷ (short, l₃) ∷ (word, l₄) ∷ (half, l₅) ∷ (word, l₆) ∷ (word, l₇) ∷ (tyBool, l₈) ∷ (tyPtr, l₉) ∷ (R′.mir, l₁₀) ∷ []
 
     -- the two calls: what is passed
     abbrev to-newer : ℕ → CountRecord → Newer 𝓤 H A mem run .Ghost
@@ -157,7 +171,8 @@ module _ {M : Type 1} (𝓤 : URA M) (H : Heap 𝓤) (A : Atoms 𝓤) (W : Given
 
     goes-newer : (best : ℕ) → best < 2 ^ 32 → (r : CountRecord) → ent 𝓤 (sem 𝓤 H A (R.the-row .own r (vals r))) (Newer 𝓤 H A mem run .pre (to-newer best r))
     goes-newer best gb r =
-        qed W (‵ (R.the-row .own r (vals r)) ∷ []) ∵ nothing ! $ move ! (1 ∷ 0 ∷ []) $ fjoin ! $ owned ! usize (Is usize) (uint-makes 𝓤 H A W w64) period _ (refl, gp) $ fjoin ! $ owned ! u16 (Is u16) (uint-makes 𝓤 H A W w16) design _ (refl, gd) $ fjoin ! $
+        qed W (‵ (R.the-row .own r (vals r)) ∷ []) ∵ nothing ! $ move ! (1 ∷ 0 ∷ []) $ fjoin ! $
+        owned ! usize (Is usize) (uint-makes 𝓤 H A W w64) period _ (refl, gp) $ fjoin ! $ owned ! u16 (Is u16) (uint-makes 𝓤 H A W w16) design _ (refl, gd) $ fjoin ! $
         owned ! usize (Is usize) (uint-makes 𝓤 H A W w64) asked _ (refl, ga) $ fjoin ! $ owned ! u32 (Is u32) (uint-makes 𝓤 H A W w32) best _ (refl, gb) $ fjoin ! $
         nothing ! $ join ! $ nothing ! $ move ! (1 ∷ 0 ∷ []) $ done !
 
@@ -169,7 +184,8 @@ module _ {M : Type 1} (𝓤 : URA M) (H : Heap 𝓤) (A : Atoms 𝓤) (W : Given
         qed W [] ∵ nothing ! $ owned ! u32 (Is u32) (uint-makes 𝓤 H A W w32) best _ (refl, gb) $ fjoin ! $ owned ! usize (Is usize) (uint-makes 𝓤 H A W w64) asked _ (refl, ga) $ fjoin ! $
         nothing ! $ join ! $ nothing ! $ move ! (1 ∷ 0 ∷ []) $ done !
 
-    module _ (𝓣 : Tables 𝓤 H) (known-newer : Triple 𝓤 (𝓣 .C #newer) (Newer 𝓤 H A mem run)) (known-figure : Triple 𝓤 (𝓣 .C #figure) (Figured 𝓤 H A mem run)) (q′ : Share) (l₀ l₁ l₂ l₃ l₄ l₅ l₆ l₇ l₈ l₉ l₁₀ : ℕ) where
+    module _ (𝓣 : Tables 𝓤 H) (known-newer : Triple 𝓤 (𝓣 .C #newer) (Newer 𝓤 H A mem run)) (known-figure : Triple 𝓤 (𝓣 .C #figure) (Figured 𝓤 H A mem run))
+        (q′ : Share) (l₀ l₁ l₂ l₃ l₄ l₅ l₆ l₇ l₈ l₉ l₁₀ : ℕ) where
       abbrev C : Calls 𝓤 H
       C = 𝓣 .C
 
@@ -184,13 +200,17 @@ module _ {M : Type 1} (𝓤 : URA M) (H : Heap 𝓤) (A : Atoms 𝓤) (W : Given
 
       -- what no turn changes: the parameters' locals, the result's, the elements and what shuts them, and that each local dies
       abbrev Frame : List (Item 𝓤)
-      Frame = ‵ (fat fullShare slice l₁ 0 (sliceVal (b, o) n)) ∷ ‵ (fat fullShare word l₂ 0 (vint w64 asked)) ∷ ‵ (fat fullShare short l₃ 0 (vint w16 design)) ∷ ‵ (fat fullShare word l₄ 0 (vint w64 period)) ∷ ‵ (froom F′.mir l₀ 0)
+      Frame =
+          ‵ (fat fullShare slice l₁ 0 (sliceVal (b, o) n)) ∷ ‵ (fat fullShare word l₂ 0 (vint w64 asked)) ∷ ‵ (fat fullShare short l₃ 0 (vint w16 design))
+          ∷ ‵ (fat fullShare word l₄ 0 (vint w64 period)) ∷ ‵ (froom F′.mir l₀ 0)
           ∷ ‵ (row R.the-row q′ ys b o) ∷ ‵ (fobor κ q (arr-parts (shares R.the-row) n .part q′ ys b o)) ∷ shared ∷ named-by
-          ∷ ‵ (fdies F′.mir l₀) ∷ ‵ (fdies slice l₁) ∷ ‵ (fdies word l₂) ∷ ‵ (fdies short l₃) ∷ ‵ (fdies word l₄) ∷ ‵ (fdies half l₅) ∷ ‵ (fdies word l₆) ∷ ‵ (fdies word l₇) ∷ ‵ (fdies tyBool l₈) ∷ ‵ (fdies tyPtr l₉) ∷ ‵ (fdies R′.mir l₁₀) ∷ []
+          ∷ ‵ (fdies F′.mir l₀) ∷ ‵ (fdies slice l₁) ∷ ‵ (fdies word l₂) ∷ ‵ (fdies short l₃) ∷ ‵ (fdies word l₄)
+          ∷ ‵ (fdies half l₅) ∷ ‵ (fdies word l₆) ∷ ‵ (fdies word l₇) ∷ ‵ (fdies tyBool l₈) ∷ ‵ (fdies tyPtr l₉) ∷ ‵ (fdies R′.mir l₁₀) ∷ []
 
       -- before the turn at i: the highest rank of the first i records, i, and the four locals that a turn fills
       abbrev At : ℕ → List (Item 𝓤)
-      At i = ‵ (fat fullShare half l₅ 0 (vint w32 (top i))) ∷ ‵ (fat fullShare word l₆ 0 (vint w64 i)) ∷ ‵ (froom word l₇ 0) ∷ ‵ (froom tyBool l₈ 0) ∷ ‵ (froom tyPtr l₉ 0) ∷ ‵ (froom R′.mir l₁₀ 0) ∷ Frame
+      At i =
+          ‵ (fat fullShare half l₅ 0 (vint w32 (top i))) ∷ ‵ (fat fullShare word l₆ 0 (vint w64 i)) ∷ ‵ (froom word l₇ 0) ∷ ‵ (froom tyBool l₈ 0) ∷ ‵ (froom tyPtr l₉ 0) ∷ ‵ (froom R′.mir l₁₀ 0) ∷ Frame
 
       -- the invariant, where t records are left
       abbrev Facts : ℕ → ℕ → Type 0
@@ -221,15 +241,20 @@ module _ {M : Type 1} (𝓤 : URA M) (H : Heap 𝓤) (A : Atoms 𝓤) (W : Given
           rewrite ! 4 (λ (p : ℕ). ‵ (fat fullShare tyPtr l₉ 0 (vptr b p))) (sym (place-is 10 o i)) refl $
           -- the record is taken out of the row, copied, and put back
           move ! (11 ∷ []) $ elem-out ! R.the-row (Is R.the-row) (shows 𝓤 H A R.the-row) vals (LL.tells R.the-type R′.the-laws) q′ ys i noRecord b o small (λ is.
-          assigns ! (of-opd ! (load ! (from ! (hop ! (look ! 7 refl) (stop !))) (look-raw ! 0 refl))) (from ! (stop !)) (init ! 8 refl (LL.lawful R.the-type R′.the-laws 𝓤 H A W .typed (recordAt ys i) _ is .0)) $
-          move ! (1 ∷ []) $ use1 W (‵ (R.the-row .own (recordAt ys i) (vals (recordAt ys i))) ⊛ ‵ (R.the-row .own (recordAt ys i) (vals (recordAt ys i)))) (LL.copy R.the-type R′.the-copy 𝓤 H A W .twice (recordAt ys i) (vals (recordAt ys i))) $ split ! $
-          move ! (2 ∷ 0 ∷ 3 ∷ []) $ elem-back ! R.the-row q′ ys i noRecord (vals (recordAt ys i)) b o small $
+          assigns ! (of-opd ! (load ! (from ! (hop ! (look ! 7 refl) (stop !))) (look-raw ! 0 refl))) (from ! (stop !)) (init ! 8 refl (LL.lawful R.the-type R′.the-laws 𝓤 H A W .typed (item i) _ is .0)) $
+          move ! (1 ∷ []) $ use1 W (‵ (R.the-row .own (item i) (vals (item i))) ⊛ ‵ (R.the-row .own (item i) (vals (item i))))
+          (LL.copy R.the-type R′.the-copy 𝓤 H A W .twice (item i) (vals (item i))) $ split ! $
+          move ! (2 ∷ 0 ∷ 3 ∷ []) $ elem-back ! R.the-row q′ ys i noRecord (vals (item i)) b o small $
           -- [the elements; the record's; the rank so far; i; …]
-          move ! (1 ∷ []) $ use1 W (raw (Newer 𝓤 H A mem run .pre (to-newer (top i) (recordAt ys i)))) (goes-newer (top i) fits (recordAt ys i)) $
-          calls-at ! fm (Newer 𝓤 H A mem run) known-newer (to-newer (top i) (recordAt ys i))
-          (and-then ! (load ! (from ! (stop !)) (look ! 2 refl)) (and-then ! (load ! (from ! (stop !)) (look ! 9 refl)) (and-then ! (load ! (from ! (stop !)) (look ! 10 refl)) (and-then ! (load ! (from ! (stop !)) (look ! 11 refl)) (and-then ! (load ! (from ! (stop !)) (look ! 7 refl)) (no-more !)))))) (λ v.
-          use1 W (later (some (λ (r : ℕ). (‵ ftrue ⊛ ‵ (u32 .own r (v ∷ []))) ⊛ raw (ensured 𝓤 H A newer.ended (newer.clauses 𝓤 H A mem run) tt (top i, (asked, (design, (period, (recordAt ys i, tt))))) tt r)))) (id⊢ 𝓤 _) $ await ! tt $ pick ! (λ r.
-          split ! $ move ! (1 ∷ []) $ use1 W (raw (fact 𝓤 (r ≡ max (top i) (rankOf i)))) (newer-of 𝓤 H A mem run (top i) asked design period (recordAt ys i) r) $ heard ! (r ≡ max (top i) (rankOf i)) (λ is-max. split ! $ drop ! $
+          move ! (1 ∷ []) $ use1 W (raw (Newer 𝓤 H A mem run .pre (to-newer (top i) (item i)))) (goes-newer (top i) fits (item i)) $
+          calls-at ! fm (Newer 𝓤 H A mem run) known-newer (to-newer (top i) (item i))
+          (and-then ! (load ! (from ! (stop !)) (look ! 2 refl)) (and-then ! (load ! (from ! (stop !)) (look ! 9 refl))
+          (and-then ! (load ! (from ! (stop !)) (look ! 10 refl)) (and-then ! (load ! (from ! (stop !)) (look ! 11 refl))
+          (and-then ! (load ! (from ! (stop !)) (look ! 7 refl)) (no-more !)))))) (λ v.
+          use1 W (later (some (λ (r : ℕ). (‵ ftrue ⊛ ‵ (u32 .own r (v ∷ []))) ⊛ raw (AfterNewer 𝓤 H A mem run (top i) asked design period (item i) r)))) (id⊢ 𝓤 _) $
+          await ! tt $ pick ! (λ r.
+          split ! $ move ! (1 ∷ []) $ use1 W (raw (fact 𝓤 (r ≡ max (top i) (rankOf i)))) (newer-of 𝓤 H A mem run (top i) asked design period (item i) r) $
+          heard ! (r ≡ max (top i) (rankOf i)) (λ is-max. split ! $ drop ! $
           facts ! u32 (Is u32) (shows 𝓤 H A u32) r (v ∷ []) (λ are. let e : r ≡ top (i + 1) = is-max ∙ sym (largest-next rankOf i) in
           land ! (from ! (stop !)) (store ! 1 refl (uint-lawful 𝓤 H A W w32 .typed r _ are .0)) $ rewrite ! 1 (λ (u : Val). ‵ (fat fullShare half l₅ 0 u)) (ap only (are .0) ∙ ap (vint w32) e) refl $
           assigns-last ! (bin ! (load ! (from ! (stop !)) (look ! 2 refl)) (lit ! tt) (record { fits = next-fits })) (from ! (stop !)) (store ! 2 refl (tt, record { fits = next-fits })) $
@@ -252,8 +277,10 @@ module _ {M : Type 1} (𝓤 : URA M) (H : Heap 𝓤) (A : Atoms 𝓤) (W : Given
           leaves-loop ! (load ! (from ! (stop !)) (look ! 3 refl)) $ exec ! C Λ E mir.t-4 (atRet E Post) $
           use0 W (raw (Figured 𝓤 H A mem run .pre (to-figure (top n)))) (goes-figure (top n) fits) $
           calls-at ! fm (Figured 𝓤 H A mem run) known-figure (to-figure (top n)) (and-then ! (load ! (from ! (stop !)) (look ! 8 refl)) (and-then ! (load ! (from ! (stop !)) (look ! 1 refl)) (no-more !))) (λ v.
-          use1 W (later (some (λ (r : Figure). (‵ ftrue ⊛ ‵ (F.the-row .own r (v ∷ []))) ⊛ raw (ensured 𝓤 H A figure.ended (figure.clauses 𝓤 H A mem run) tt (asked, (top n, tt)) tt r)))) (id⊢ 𝓤 _) $ await ! tt $ pick ! (λ r.
-          split ! $ move ! (1 ∷ []) $ use1 W (raw (fact 𝓤 (r ≡ newestFigure asked (top n)))) (figure-of 𝓤 H A mem run asked (top n) r) $ heard ! (r ≡ newestFigure asked (top n)) (λ e. split ! $ drop ! $
+          use1 W (later (some (λ (r : Figure). (‵ ftrue ⊛ ‵ (F.the-row .own r (v ∷ []))) ⊛ raw (AfterFigure 𝓤 H A mem run asked (top n) r)))) (id⊢ 𝓤 _) $
+          await ! tt $ pick ! (λ r.
+          split ! $ move ! (1 ∷ []) $ use1 W (raw (fact 𝓤 (r ≡ newestFigure asked (top n)))) (figure-of 𝓤 H A mem run asked (top n) r) $
+          heard ! (r ≡ newestFigure asked (top n)) (λ e. split ! $ drop ! $
           peeks ! F.the-row (Is F.the-row) (shows 𝓤 H A F.the-row) r (v ∷ []) (λ is.
           land ! (from ! (stop !)) (init ! 11 refl (LL.lawful F.the-type F′.the-laws 𝓤 H A W .typed r _ is .0)) $
           move ! (12 ∷ 13 ∷ []) $ shuts-slice ! tt R.the-row q′ ys b o $
@@ -311,9 +338,11 @@ module _ {M : Type 1} (𝓤 : URA M) (H : Heap 𝓤) (A : Atoms 𝓤) (W : Given
       -- the MIR: the locals are made and the parameters passed
       walk : ent 𝓤 (onEntry 𝓤 H A newest.signature (κ, tt) (q, tt) x at) (WpFn 𝓤 H (𝓣 .C) (𝓣 .Λ) code.function (sliceVal (b, o) n ∷ vint w64 asked ∷ vint w16 design ∷ vint w64 period ∷ []) Post)
       walk =
-          qed W ((‵ (flft κ q) ⊛ ‵ ftrue) ∷ ‵ (owns (ShrSlice (named 0) κ R.the-row ∷ usize ∷ u16 ∷ usize ∷ []) x at) ∷ []) ∵ enter ! (𝓣 .C) (𝓣 .Λ) code.function (sliceVal (b, o) n ∷ vint w64 asked ∷ vint w16 design ∷ vint w64 period ∷ []) _ $
+          qed W ((‵ (flft κ q) ⊛ ‵ ftrue) ∷ ‵ (owns (ShrSlice (named 0) κ R.the-row ∷ usize ∷ u16 ∷ usize ∷ []) x at) ∷ []) ∵
+          enter ! (𝓣 .C) (𝓣 .Λ) code.function (sliceVal (b, o) n ∷ vint w64 asked ∷ vint w16 design ∷ vint w64 period ∷ []) _ $
           alloc1 ! (λ l₀. alloc1 ! (λ l₁. alloc1 ! (λ l₂. alloc1 ! (λ l₃. alloc1 ! (λ l₄. alloc1 ! (λ l₅. alloc1 ! (λ l₆. alloc1 ! (λ l₇. alloc1 ! (λ l₈. alloc1 ! (λ l₉. alloc1 ! (λ l₁₀. alloc0 ! $ params1 ! $
-          pass1 ! (init ! 18 refl (tt, (tt, (record { fits = gn .0 }, tt)))) $ pass1 ! (init ! 16 refl (tt, record { fits = ga })) $ pass1 ! (init ! 14 refl (tt, record { fits = gd })) $ pass1 ! (init ! 12 refl (tt, record { fits = gp })) $ pass0 ! $
+          pass1 ! (init ! 18 refl (tt, (tt, (record { fits = gn .0 }, tt)))) $ pass1 ! (init ! 16 refl (tt, record { fits = ga })) $
+          pass1 ! (init ! 14 refl (tt, record { fits = gd })) $ pass1 ! (init ! 12 refl (tt, record { fits = gp })) $ pass0 ! $
           enters l₀ l₁ l₂ l₃ l₄ l₅ l₆ l₇ l₈ l₉ l₁₀)))))))))))
 
 module _ {M : Type 1} (𝓤 : URA M) (H : Heap 𝓤) (A : Atoms 𝓤) (W : Given 𝓤 H A) (mem : Memory → SProp 𝓤) (run : Routine → Fun 𝓤) (𝓣 : Tables 𝓤 H)
@@ -322,11 +351,14 @@ module _ {M : Type 1} (𝓤 : URA M) (H : Heap 𝓤) (A : Atoms 𝓤) (W : Given
   newest-walks = walked 𝓤 H A newest.ended stayed (newest.clauses 𝓤 H A mem run) (WpFn 𝓤 H (𝓣 .C) (𝓣 .Λ) code.function)
       (λ κs. (slice-vals, (uint-vals w64, (uint-vals w16, (uint-vals w64, tt))))) (λ κs. (shr-slice-tells (named 0) (κs .0) R.the-row, (uint-tells w64, (uint-tells w16, (uint-tells w64, tt)))))
       (λ κs qs bounds a g are. via 𝓤 _ (fst∗ 𝓤 _ (emp 𝓤))
-      (walk 𝓤 H A W mem run (κs .0) (qs .0) (a .0 .ptr .0) (a .0 .ptr .1) (a .0 .name) (a .0 .now) (a .1 .0) (a .1 .1 .0) (a .1 .1 .1 .0) (are .0 .0 .1) (are .1 .0 .1) (are .1 .1 .0 .1) (are .1 .1 .1 .0 .1) 𝓣 known-newer known-figure))
+      (walk 𝓤 H A W mem run (κs .0) (qs .0) (a .0 .ptr .0) (a .0 .ptr .1) (a .0 .name) (a .0 .now) (a .1 .0) (a .1 .1 .0) (a .1 .1 .1 .0)
+      (are .0 .0 .1) (are .1 .0 .1) (are .1 .1 .0 .1) (are .1 .1 .1 .0 .1) 𝓣 known-newer known-figure))
 
   newest-meets : Meets 𝓤 H A newest.signature (WpFn 𝓤 H (𝓣 .C) (𝓣 .Λ) code.function) (newest.spec 𝓤 H A mem run)
-  newest-meets = walk-meets 𝓤 H A newest.ended stayed W
-      (goes-none-slice 𝓤 H A W 1 (0 ∷ []) tt (plain (λ _. R.the-row)) yes, (goes-none 𝓤 H A W 1 (λ _. usize) yes (λ κs x f. refl), (goes-none 𝓤 H A W 1 (λ _. u16) yes (λ κs x f. refl), (goes-none 𝓤 H A W 1 (λ _. usize) yes (λ κs x f. refl), tt))))
+  newest-meets = walk-meets 𝓤 H A newest.ended stayed W (
+    goes-none-slice 𝓤 H A W 1 (0 ∷ []) tt (plain (λ _. R.the-row)) yes,
+    (goes-none 𝓤 H A W 1 (λ _. usize) yes (λ κs x f. refl), (goes-none 𝓤 H A W 1 (λ _. u16) yes (λ κs x f. refl), (goes-none 𝓤 H A W 1 (λ _. usize) yes (λ κs x f. refl), tt))),
+  )
       (newest.clauses 𝓤 H A mem run) (WpFn 𝓤 H (𝓣 .C) (𝓣 .Λ) code.function) (WpFn-mono 𝓤 H (W .laws) 𝓣 code.function) newest-walks
 
 pub givendra-newest-count-spec : {M : Type 1} → stated.statement M
