@@ -1,5 +1,6 @@
-/* Works out a plan for a junction file, prints it as the program plan does, judges it, and asks for an intergreen time. Where a second name is
- * given, it saves the plan file in a new file of that name. Ends with status 1 where a plan is refused, and with 2 where something fails. */
+/* Works out a plan for a junction file, prints it as the program plan does, judges it, and asks for an intergreen time and a level of service.
+ * Where a second name is given, it saves the plan file in a new file of that name. Ends with status 1 where a plan is refused, and with 2 where
+ * something fails. */
 #include "givendra.h"
 #include <stdio.h>
 
@@ -54,5 +55,9 @@ int main(int argc, char **argv)
         return refused(judged.refusal, judged.place);
     printf("accepted\n");
     printf("intergreen from 1 to 2: %u s\n", givendra_intergreen(junction, length, 1, 2).value);
+    struct givendra_delay_answer delay = givendra_delay(junction, length, plan, worked.size, 1);
+    if (delay.refusal)
+        return refused(delay.refusal, delay.place);
+    printf("level of service of stream 1: %c\n", delay.level);
     return written(0);
 }

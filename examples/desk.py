@@ -15,11 +15,12 @@ def main(junction_name, plan_name=None):
             with open(plan_name, "xb") as file:
                 file.write(plan.file)
         givendra.judge(junction, plan.file)
+        print("accepted")
+        print("intergreen from 1 to 2:", givendra.intergreen(junction, 1, 2), "s")
+        print("level of service of stream 1:", givendra.delay(junction, plan.file, 1).level)
     except givendra.Refused as refused:
         print(refused)
         return 1
-    print("accepted")
-    print("intergreen from 1 to 2:", givendra.intergreen(junction, 1, 2), "s")
     return 0
 
 

@@ -1,4 +1,4 @@
-/* Traffic-signal timing by the annex of Ordinance RD-02-21-2: judge a plan, work out a plan, and ask for the annex's figures.
+/* Traffic-signal timing by the annex of Ordinance RD-02-21-2: judge a plan, work out a plan, and ask for the annex's figures and for delays.
  *
  * For x86-64 Linux. `rt staticlib givendra` makes the archive target/staticlib/libgivendra.a; `tools/install PREFIX` installs header, archive and
  * shared library, so that `pkg-config --cflags --libs givendra` says how to compile and link.
@@ -75,6 +75,15 @@ struct givendra_figure {
     uint32_t value;
 };
 
+/* What is told of a car stream in a plan. */
+struct givendra_delay_answer {
+    size_t place;
+    uint8_t refusal;
+    uint8_t outcome; /* 1 a delay, 2 a saturation of 1 or more, 3 no red */
+    uint8_t level;   /* of service, 'A' to 'F' */
+    double value;    /* the delay in s, or the saturation; 0 where there is no red */
+};
+
 /* One traffic count: the stream's number, the day of the count, the day of its file (of no effect), the flow in E/h, and the period of the day,
  * 1 to 4. */
 struct givendra_count_record {
@@ -114,6 +123,13 @@ struct givendra_figure givendra_saturation_flow(const uint8_t *junction, size_t 
 /* Flow ratio of a car stream, in ten-thousandths, rounded up. */
 struct givendra_figure givendra_flow_ratio(const uint8_t *junction, size_t junction_length, size_t stream);
 
+/* Delay and level of service of a car stream in an accepted plan: Webster's delay by the annex's (51) to (56), with the factor 0.9 in place of (54),
+ * in double, each operation rounded once in the order of document 02's formulas. No red, where green and one second fill the cycle, is tested
+ * first, then the saturation. The level is that of the unrounded delay: A up to 25 s, B up to 35, C up to 50, D up to 70, E up to 100, else F; of a
+ * saturation F, without red A. givendra_judge's refusals come first; then 9, place the number asked for, where the junction has no such stream
+ * or the stream is no car. */
+struct givendra_delay_answer givendra_delay(const uint8_t *junction, size_t junction_length, const uint8_t *plan, size_t plan_length, size_t stream);
+
 /* The flow of a stream in a period by a list of so many counts, in E/h: that of the latest count day not after the design day, of equal days the
  * larger flow. Records of other streams or periods, after the design day, or with a flow not from 1 to 9,999 are passed over; 9, place the
  * stream, where none is left, so always where the period is not from 1 to 4. */
@@ -138,7 +154,7 @@ static inline const char *givendra_refusal_text(unsigned number)
     case 6: return "more than 16 streams, 64 conflict zones or 128 counts";
     case 7: return "a stream does not exist or does not suit";
     case 8: return "no heading, no car, or the phases used are not exactly 1 to some number, 2 or more";
-    case 9: return "the stream has no usable count in the period";
+    case 9: return "the stream is no car, or has no usable count in the period";
     case 11: return "a field of the plan file does not fit";
     case 12: return "not the field of the plan file that is due, or bytes after the last";
     case 13: return "a cycle, or a green's start or length, is out of range";

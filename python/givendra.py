@@ -29,7 +29,7 @@ _TEXTS = {
     6: "more than 16 streams, 64 conflict zones or 128 counts",
     7: "a stream does not exist or does not suit",
     8: "no heading, no car, or the phases used are not exactly 1 to some number, 2 or more",
-    9: "the stream has no usable count in the period",
+    9: "the stream is no car, or has no usable count in the period",
     11: "a field of the plan file does not fit",
     12: "not the field of the plan file that is due, or bytes after the last",
     13: "a cycle, or a green's start or length, is out of range",
@@ -69,6 +69,11 @@ Plan.__doc__ = "A plan that was worked out: its file's bytes, the cycle, and how
 Worked = collections.namedtuple("Worked", "cycle tried size")
 Worked.__doc__ = "The same where the plan file is in a lent buffer: size is how many bytes it has there."
 
+Delay = collections.namedtuple("Delay", "outcome value level")
+Delay.__doc__ = """What is told of a car stream in a plan: the outcome DELAY with the value in seconds, SATURATION with a value of 1 or more, or
+NO_RED with the value 0; and the level of service, "A" to "F", of the unrounded value."""
+DELAY, SATURATION, NO_RED = 1, 2, 3
+
 Count = collections.namedtuple("Count", "stream count_day file_day flow period")
 Count.__doc__ = "One traffic count: the stream, the day of the count, the day of its file (of no effect), the flow, the period of the day, 1 to 4."
 
@@ -98,6 +103,10 @@ class _Figure(ctypes.Structure):
     _fields_ = _refusal + [("value", ctypes.c_uint32)]
 
 
+class _DelayAnswer(ctypes.Structure):
+    _fields_ = _refusal + [("outcome", ctypes.c_uint8), ("level", ctypes.c_uint8), ("value", ctypes.c_double)]
+
+
 class _CountRecord(ctypes.Structure):
     _fields_ = [("stream", ctypes.c_uint8), ("count_day", ctypes.c_uint16), ("file_day", ctypes.c_uint16), ("flow", ctypes.c_uint16),
                 ("period", ctypes.c_uint8)]
@@ -113,6 +122,7 @@ _FUNCTIONS = {
     "need": (_Figure, _file + [ctypes.c_size_t, ctypes.c_uint16]),
     "saturation_flow": (_Figure, _file + [ctypes.c_size_t]),
     "flow_ratio": (_Figure, _file + [ctypes.c_size_t]),
+    "delay": (_DelayAnswer, _file + _file + [ctypes.c_size_t]),
     "newest_count": (_Figure, [ctypes.POINTER(_CountRecord), ctypes.c_size_t, ctypes.c_size_t, ctypes.c_uint16, ctypes.c_size_t]),
 }
 
@@ -220,6 +230,12 @@ def saturation_flow(junction, stream):
 def flow_ratio(junction, stream):
     """The flow ratio of a car stream, in ten-thousandths, rounded up."""
     return _answer("flow_ratio", *_lent(junction), _stream(stream)).value
+
+
+def delay(junction, plan, stream):
+    """Delay and level of service of a car stream in an accepted plan: a Delay."""
+    answer = _answer("delay", *_lent(junction), *_lent(plan), _stream(stream))
+    return Delay(answer.outcome, answer.value, chr(answer.level))
 
 
 def newest_count(counts, stream, design_day, period):

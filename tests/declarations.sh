@@ -40,6 +40,7 @@ awk '/^struct [a-z_]* {$/, /^};/; /^[a-z].*\(/, /;$/' "$work/block" | sed -E '
     s/(size_t|uint[0-9]+_t) (\w+)([,)])/\2: \1\3/g
     s/size_t/usize/g
     s/uint([0-9]+)_t/u\1/g
+    s/double/f64/g
     s/struct givendra_/struct _/g
     :name
     s/(struct \w*)_(\w)/\1\u\2/

@@ -32,6 +32,8 @@ static const uint8_t second_bytes[] = {HEADING(2), CAR, PEDESTRIAN, ZONE, COUNT(
 static const uint8_t third_bytes[] = {HEADING(3), CAR, PEDESTRIAN, ZONE, COUNT(0x02, 0x58, 1), COUNT(0x03, 0x84, 2)};
 static const uint8_t heavy_bytes[] = {HEADING(2), CAR, PEDESTRIAN, ZONE, COUNT(0x02, 0x58, 1), COUNT(0x05, 0x78, 2)}; /* 1,400 E/h in period 2 */
 static const uint8_t fifth_bytes[] = {HEADING(5), CAR, PEDESTRIAN, ZONE, COUNT(0x02, 0x58, 5)};
+static const uint8_t capacity_bytes[] = {HEADING(1), CAR, PEDESTRIAN, ZONE, COUNT(0x05, 0x6a, 1)}; /* 1,386 E/h */
+static const uint8_t apart_bytes[] = {HEADING(1), CAR, PEDESTRIAN, COUNT(0x02, 0x58, 1)};
 static const uint8_t old_bytes[] = {0x01, 0x00, 0x04, 0x00, 0x07, 0x23, 0x28, CAR, PEDESTRIAN, ZONE, COUNT(0x02, 0x58, 1)};
 
 static struct file whole = {"the whole case", whole_bytes, sizeof whole_bytes};
@@ -41,6 +43,9 @@ static struct file busy = {"flow 1,826", busy_bytes, sizeof busy_bytes};
 static struct file first = {"two periods in the first", first_bytes, sizeof first_bytes};
 static struct file second = {"two periods in the second", second_bytes, sizeof second_bytes};
 static struct file heavy = {"1,400 E/h in the second", heavy_bytes, sizeof heavy_bytes};
+
+static struct file capacity = {"flow 1,386", capacity_bytes, sizeof capacity_bytes};
+static struct file apart = {"no zone", apart_bytes, sizeof apart_bytes};
 
 /* Files that are refused, whatever else is asked: the empty one, also at NULL, by 8 at its length; without its last byte the count does not fit, 2 at 49;
  * without its count, or with counts of other periods alone, the car has none in the period, 9 at stream 1; there is no period 5, 5 at 0; a heading
@@ -88,6 +93,10 @@ static void layout(void)
            offsetof(struct givendra_junction_answer, zones), offsetof(struct givendra_junction_answer, counts));
     printf("figure: size %zu place %zu refusal %zu value %zu\n", sizeof(struct givendra_figure), offsetof(struct givendra_figure, place),
            offsetof(struct givendra_figure, refusal), offsetof(struct givendra_figure, value));
+    printf("delay_answer: size %zu place %zu refusal %zu outcome %zu level %zu value %zu\n", sizeof(struct givendra_delay_answer),
+           offsetof(struct givendra_delay_answer, place), offsetof(struct givendra_delay_answer, refusal),
+           offsetof(struct givendra_delay_answer, outcome), offsetof(struct givendra_delay_answer, level),
+           offsetof(struct givendra_delay_answer, value));
     struct after_a_byte {
         uint8_t byte;
         struct givendra_count_record record;
@@ -121,6 +130,8 @@ static void lend_files(void)
     lend(&first);
     lend(&second);
     lend(&heavy);
+    lend(&capacity);
+    lend(&apart);
     for (size_t i = 0; i < LENGTH(refused); i++)
         lend(&refused[i]);
 }
@@ -210,6 +221,24 @@ static void judge_changed(const char *what, size_t place, uint8_t byte)
 {
     uint8_t changed[sizeof plan];
     judge(what, whole, with_byte(changed, place, byte), sizeof changed);
+}
+
+/* The value by its bits. */
+static void delay(const char *what, struct file j, const uint8_t *bytes, size_t length, size_t stream)
+{
+    void *lent = alone(bytes, length);
+    struct givendra_delay_answer a = givendra_delay(j.bytes, j.length, (const uint8_t *)lent, length, stream);
+    uint64_t bits;
+    memcpy(&bits, &a.value, sizeof bits);
+    printf("delay, %s, %s, stream %zu: refusal %u place %zu outcome %u level %u value %08x%08x\n", j.name, what, stream, a.refusal, a.place,
+           a.outcome, a.level, (unsigned)(bits >> 32), (unsigned)bits);
+    free(lent);
+}
+
+static void delay_changed(const char *what, struct file j, size_t place, uint8_t byte, size_t stream)
+{
+    uint8_t changed[sizeof plan];
+    delay(what, j, with_byte(changed, place, byte), sizeof changed, stream);
 }
 
 static void green(const char *what, const uint8_t *bytes, size_t length, size_t stream)
@@ -391,6 +420,30 @@ static void judging(void)
         judge(refused[i].name, refused[i], plan, 6);
 }
 
+/* By request 2026-05's formulas in double: 36 of 50 s with 600 E/h, and with 900 E/h in the second period; 16 of 50 s. At exact capacity, 1,386 x 50
+ * = 1,925 x 36, g x S is 1,386 and u is 1. Without a zone the car's green can be 49 of 50 s, and g is 1. The pedestrian and numbers of no stream
+ * get 9, after all that the judge refuses. */
+static void delays(void)
+{
+    delay("the plan", whole, plan, sizeof plan, 1);
+    delay("the plan", second, plan, sizeof plan, 1);
+    delay_changed("a length of 15", whole, 12, 15, 1);
+    delay("the plan", capacity, plan, sizeof plan, 1);
+    delay_changed("a length of 49", apart, 12, 49, 1);
+    delay_changed("a length of 48", apart, 12, 48, 1);
+    delay("the plan", whole, plan, sizeof plan, 2);
+    for (size_t i = 0; i < LENGTH(absent); i++)
+        delay("the plan", whole, plan, sizeof plan, absent[i]);
+    delay_changed("a start of 39", whole, 18, 39, 3);
+    delay_changed("a length of 5", whole, 20, 5, 1);
+    delay_changed("a length of 14", whole, 12, 14, 0);
+    delay_changed("cycle 0", whole, 4, 0, 258);
+    delay("six bytes of the plan", whole, plan, 6, 1);
+    delay("no byte of a plan at NULL", whole, NULL, 0, 1);
+    for (size_t i = 0; i < LENGTH(refused); i++)
+        delay("six bytes of the plan", refused[i], plan, 6, 0);
+}
+
 /* Both streams; streams that are not there, also where a number is cut to 8 or 32 bits; a plan cut off in the last field; no byte; a field 2
  * with another tag, length or stream. The numbers are read high byte first. */
 static void greens(void)
@@ -435,6 +488,7 @@ int main(void)
     counts();
     working_out();
     judging();
+    delays();
     greens();
     texts();
     return 0;

@@ -34,6 +34,7 @@ same "an option" 2 "$usage" tools/install --help
 same "a prefix that pkg-config does not take" 2 "install: PREFIX has a character that pkg-config does not take" tools/install "$work/a#b"
 
 same "the installed files" 0 "./bin/accepted
+./bin/delay
 ./bin/intergreens
 ./bin/judge
 ./bin/plan
@@ -51,7 +52,7 @@ same "the exported functions" 0 "$(sed -n 's/^pub extern "C" fn \([a-z0-9_]*\)(.
 
 # The C example in another folder, linked with the shared library and statically. pkg-config writes a backslash before a blank.
 whole=$root/examples/whole_case
-expected=$(cat "$whole.txt"; echo accepted; echo 'intergreen from 1 to 2: 5 s')
+expected=$(cat "$whole.txt"; echo accepted; echo 'intergreen from 1 to 2: 5 s'; echo 'level of service of stream 1: A')
 mkdir "$work/outside" && cp examples/desk.c "$work/outside" && cd "$work/outside" || exit 1
 eval "gcc desk.c $(pkg-config --cflags --libs givendra) -o shared" || exit 1
 eval "gcc -static desk.c $(pkg-config --static --cflags --libs givendra) -o static" || exit 1
@@ -69,6 +70,7 @@ same "the next release" 2 "desk: the library is of release $((release + 1)), and
 # The programs, from another folder.
 bin=$prefix/bin
 same "the installed plan" 0 "$(cat "$whole.txt")" sh -c '"$1" < "$2"' sh "$bin/plan" "$whole.junction"
+same "the installed delay" 0 "1 delay 3.5 A" "$bin/delay" "$whole.junction" "$whole.plan"
 same "the installed intergreens" 0 "$(cat "$root/crates/intergreens/stdout")" sh -c '"$1" < "$2"' sh "$bin/intergreens" "$root/examples/four_phases.junction"
 : > empty.plan
 for accepted in "$bin/accepted" "$root/tools/accepted"; do

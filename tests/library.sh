@@ -84,7 +84,8 @@ saves() {
     fails "$@" $whole.junction "$work/a.plan" "$work/b.plan"
 }
 
-# Streams 1 and 2 of the whole case and of its evening share a zone; those of the other examples that have a plan are of one phase.
+# Streams 1 and 2 of the whole case and of its evening share a zone; those of the other examples that have a plan are of one phase. Stream 1 of each is a
+# car, with a level worked out apart.
 compiled gcc -std=c99 examples/desk.c
 export PYTHONPATH="$prefix/share/givendra/python" PYTHONDONTWRITEBYTECODE=1
 whole=examples/whole_case
@@ -94,9 +95,14 @@ for f in examples/*.junction; do
     $whole.junction | examples/evening.junction) intergreen=5 ;;
     *) intergreen=0 ;;
     esac
+    case $f in
+    examples/four_phases.junction) level=C ;;
+    examples/stop_tram.junction) level=E ;;
+    *) level=A ;;
+    esac
     case $plan in
     refused*) status=1 number=${plan#* } expected="$plan: $(sed -n "s/^text ${number% *}: //p" tests/header.txt)" ;;
-    *) status=0 expected=$(printf '%s\naccepted\nintergreen from 1 to 2: %s s' "$plan" $intergreen) ;;
+    *) status=0 expected=$(printf '%s\naccepted\nintergreen from 1 to 2: %s s\nlevel of service of stream 1: %s' "$plan" $intergreen $level) ;;
     esac
     run "the C example on $f" $status "$f"
     [ "$(cat "$work/out")" = "$expected" ] || { echo "library: the C example on $f wrote:"; cat "$work/out"; failed=1; }

@@ -1,10 +1,10 @@
 #!/bin/sh
-# Runs the programs judge, plan and intergreens on files, and compares what they write with what they should. What rt has proved and has not
+# Runs the programs judge, plan, delay and intergreens on files, and compares what they write with what they should. What rt has proved and has not
 # changed since is not proved again.
 cd "$(dirname "$0")/.." || exit 1
 work=$(mktemp -d) || exit 1
 trap 'rm -rf "$work"' EXIT
-rt check judge plan intergreens > "$work/log" 2>&1 || { tail -n 20 "$work/log"; exit 1; }
+rt check judge plan delay intergreens > "$work/log" 2>&1 || { tail -n 20 "$work/log"; exit 1; }
 failed=0
 
 # same NAME EXPECTED-OUTPUT EXPECTED-ERROR COMMAND..: compares standard output and standard error.
@@ -25,9 +25,7 @@ plan=examples/whole_case.plan
 # bytes OFFSET COUNT FILE: a part of a file
 bytes() { tail -c +"$(($1 + 1))" "$3" | head -c "$2"; }
 
-same "the whole case" 'accepted\n' '' $judge $junction $plan
 { bytes 0 18 $plan; printf '\047'; bytes 19 2 $plan; } > "$work/early.plan"
-same "a start of 39" 'refused 17 1\n' '' $judge $junction "$work/early.plan"
 : > "$work/empty"
 # The whole case as it was before request 2026-04, and with the period added.
 { printf '\001\000\004'; bytes 3 4 $junction; bytes 8 41 $junction; printf '\004\000\007'; bytes 52 7 $junction; } > "$work/old.junction"
@@ -39,10 +37,7 @@ for words in "1 $work/new.junction $work/newer.junction" "1 $work/old.junction $
     err=$(tools/add_period $words 2>&1)
     [ $? = 2 ] && [ -n "$err" ] && [ ! -e "$work/newer.junction" ] || { echo "programs: add_period $words does not end with status 2 and a reason"; failed=1; }
 done
-same "an empty plan" 'refused 12 0\n' '' $judge $junction "$work/empty"
-same "an empty junction" 'refused 8 0\n' '' $judge "$work/empty" $plan
 { cat $plan; head -c 70000 /dev/zero; } > "$work/long.plan"
-same "70,000 bytes after the plan" 'refused 12 21\n' '' $judge $junction "$work/long.plan"
 { printf '\021\377\377'; head -c 65535 /dev/zero; } > "$work/field.plan"
 same "a field of 65,535 bytes that fits" 'refused 12 0\n' '' $judge $junction "$work/field.plan"
 { printf '\021\377\377'; head -c 65534 /dev/zero; } > "$work/field.plan"
@@ -51,9 +46,6 @@ head -c 16384 /dev/zero > "$work/zeros"
 same "a junction of 16,384 bytes" 'refused 3 0\n' '' $judge "$work/zeros" $plan
 head -c 20000 /dev/zero > "$work/zeros"
 same "a junction of 20,000 bytes" 'refused 1 0\n' '' $judge "$work/zeros" $plan
-same "no such junction" '' "$work/none: No such file or directory\n" $judge "$work/none" $plan
-same "no such plan" '' "$work/none: No such file or directory\n" $judge $junction "$work/none"
-same "a folder for a plan" '' "$work: Is a directory\n" $judge $junction "$work"
 
 for f in examples/*.junction; do
     same "plan of $f" "$(cat "${f%.junction}.txt")\n" '' sh -c "target/bin/plan < $f"
@@ -149,21 +141,90 @@ for program in plan intergreens; do
     same "$program with too many arguments" '' "usage: $words\n" $bin $junction "$work/a" "$work/b"
 done
 
-same "judge with one name" '' 'usage: judge JUNCTION-FILE PLAN-FILE\n' $judge $junction
-same "judge with three names" '' 'usage: judge JUNCTION-FILE PLAN-FILE\n' $judge $junction $plan $plan
-same "judge -h" '' 'usage: judge JUNCTION-FILE PLAN-FILE\n' $judge -h
-same "judge --help and a name" '' 'usage: judge JUNCTION-FILE PLAN-FILE\n' $judge --help $plan
-same "judge with an option for a plan" '' 'usage: judge JUNCTION-FILE PLAN-FILE\n' $judge $junction -x
-same "judge of an empty name" '' 'judge: a file name is empty or too long\n' $judge '' $plan
-same "judge of a plan's name of 5,000 bytes" '' 'judge: a file name is empty or too long\n' $judge $junction "$long"
-same "judge of a junction that cannot be read" '' '/proc/self/mem: Input/output error\n' $judge /proc/self/mem $plan
-same "judge of a plan that cannot be read" '' '/proc/self/mem: Input/output error\n' $judge $junction /proc/self/mem
-same "judge of text for a junction" 'refused 2 0\n' '' $judge "$work/text" $plan
-same "judge of text for a plan" 'refused 11 0\n' '' $judge $junction "$work/text"
-same "judge of a megabyte for a junction" 'refused 1 0\n' '' $judge "$work/megabyte" $plan
-same "judge of a megabyte for a plan" 'refused 12 0\n' '' $judge $junction "$work/megabyte"
-same "judge with its input closed" 'accepted\n' '' sh -c "$judge $junction $plan <&-"
-same "judge to a full output" '' 'judge: standard output: No space left on device\n' sh -c "$judge $junction $plan > /dev/full"
-same "judge to a closed output" '' 'judge: standard output: Bad file descriptor\n' sh -c "$judge $junction $plan >&-"
-[ $failed = 0 ] && echo "programs: judge, plan and intergreens write what they should"
+# delayed EXAMPLE EXPECTED: what `delay` tells of the plan that `plan` keeps of an example, worked out apart.
+delayed() {
+    rm -f "$work/delayed.plan"
+    target/bin/plan "examples/$1.junction" "$work/delayed.plan" > "$work/out" 2>&1
+    same "delay of $1" "$2\n" '' target/bin/delay "examples/$1.junction" "$work/delayed.plan"
+}
+
+delayed evening '1 delay 4.8 A'
+delayed four_phases '1 delay 39.4 C\n2 delay 49.7 C\n4 delay 137.6 F\n7 delay 91.1 E'
+delayed island '1 delay 10.5 A\n2 delay 10.9 A\n4 delay 28.3 B'
+delayed pedestrian_phase '1 delay 20.8 A\n2 delay 19.2 A\n3 delay 31.6 B'
+delayed stop_tram '1 delay 73.7 E\n2 delay 45.0 C\n3 delay 577.1 F\n6 delay 975.7 F'
+
+# told LABEL EXPECTED: `delay` on the junction and the plan of a stored case prints a line for each car, with the same level and tenths rounded up.
+told() {
+    python3 -c '
+import sys
+for line in open("crates/stored_cases/stdin"):
+    if line.startswith("junction:"):
+        junction = line.split(":")[1]
+    if line.startswith("delay " + sys.argv[1] + ": "):
+        for name, digits in (("junction", junction.split()), ("plan", line.rpartition(":")[2].split()[1:])):
+            open(sys.argv[2] + "/told." + name, "wb").write(bytes.fromhex("".join(digits)))
+' "$1" "$work"
+    same "delay of $1" "$2\n" '' target/bin/delay "$work/told.junction" "$work/told.plan"
+    rm -f "$work/told.junction" "$work/told.plan"
+}
+
+told '35 of 50, 600 of 1,925, the whole case' '1 delay 3.5 A'
+told '48 of 50, 600 of 1,925, length + 1 a second below the cycle' '1 delay 0.5 A'
+told '49 of 50, 600 of 1,925, length + 1 is the cycle' '1 no red A'
+told '10 of 20, 1,485 of 2,700, exact capacity, u just below 1' '1 delay over 9999.9 F'
+told '49 of 100, 1,350 of 2,700, exact capacity, u 1' '1 saturation 1.0 F'
+told '13 of 55, 280 of 1,100, exact capacity, u just above 1' '1 saturation 1.0 F'
+told 'one unit below capacity' '1 delay 1625.2 F'
+told '12 of 23, 1,088 of 1,925, capacity 25,025 for 25,024' '1 delay over 9999.9 F'
+told '49 of 50, 1,925 of 1,925, no red is tested before u, which is 1' '1 no red A'
+told '22 of 69, 378 of 1,620, the greatest below 25 s' '1 delay 25.0 A'
+told '17 of 60, 642 of 2,700, 25 s exactly' '1 delay 25.0 A'
+told '55 of 112, 1,296 of 3,240, the least above 25 s' '1 delay 25.1 B'
+told '55 of 140, 756 of 2,700, 35 s exactly' '1 delay 35.0 B'
+told '20 of 35, 1,566 of 2,700, the least above 35 s' '1 delay 35.1 C'
+told '29 of 108, 810 of 3,240, 50 s exactly' '1 delay 50.0 C'
+told '68 of 180, 574 of 1,980, just above 50 s' '1 delay 50.1 D'
+told '47 of 160, 1,008 of 3,600, 70 s exactly' '1 delay 70.0 D'
+told '9 of 144, 95 of 2,475, just above 70 s' '1 delay 70.1 E'
+told '26 of 171, 588 of 3,990, 100 s exactly' '1 delay 100.0 E'
+told '8 of 153, 144 of 3,060, the real number is 100' '1 delay 100.1 F'
+told 'every kind, the car before' '1 delay 3.5 A\n6 delay 8.3 A'
+told 'a car with a delay beside one at u 1' '1 delay 29.3 B\n2 saturation 1.0 F'
+told '9, count after the design day, stream 1' 'refused 9 1'
+
+# Bad input and output, of each program that reads a junction and a plan.
+for program in judge delay; do
+    bin=target/bin/$program usage="usage: $program JUNCTION-FILE PLAN-FILE\n"
+    case $program in
+    judge) answer='accepted\n' ;;
+    *) answer='1 delay 3.5 A\n' ;;
+    esac
+    same "$program of the whole case" "$answer" '' $bin $junction $plan
+    same "$program of a start of 39" 'refused 17 1\n' '' $bin $junction "$work/early.plan"
+    same "$program of an empty plan" 'refused 12 0\n' '' $bin $junction "$work/empty"
+    same "$program of an empty junction" 'refused 8 0\n' '' $bin "$work/empty" $plan
+    same "$program with 70,000 bytes after the plan" 'refused 12 21\n' '' $bin $junction "$work/long.plan"
+    same "$program with no such junction" '' "$work/none: No such file or directory\n" $bin "$work/none" $plan
+    same "$program with no such plan" '' "$work/none: No such file or directory\n" $bin $junction "$work/none"
+    same "$program with a folder for a plan" '' "$work: Is a directory\n" $bin $junction "$work"
+    same "$program with one name" '' "$usage" $bin $junction
+    same "$program with three names" '' "$usage" $bin $junction $plan $plan
+    same "$program -h" '' "$usage" $bin -h
+    same "$program --help and a name" '' "$usage" $bin --help $plan
+    same "$program with an option for a plan" '' "$usage" $bin $junction -x
+    same "$program of an empty name" '' "$program: a file name is empty or too long\n" $bin '' $plan
+    same "$program of a plan's name of 5,000 bytes" '' "$program: a file name is empty or too long\n" $bin $junction "$long"
+    same "$program of a junction that cannot be read" '' '/proc/self/mem: Input/output error\n' $bin /proc/self/mem $plan
+    same "$program of a plan that cannot be read" '' '/proc/self/mem: Input/output error\n' $bin $junction /proc/self/mem
+    same "$program of text for a junction" 'refused 2 0\n' '' $bin "$work/text" $plan
+    same "$program of text for a plan" 'refused 11 0\n' '' $bin $junction "$work/text"
+    same "$program of a megabyte for a junction" 'refused 1 0\n' '' $bin "$work/megabyte" $plan
+    same "$program of a megabyte for a plan" 'refused 12 0\n' '' $bin $junction "$work/megabyte"
+    same "$program with its input closed" "$answer" '' sh -c "$bin $junction $plan <&-"
+    same "$program to a full output" '' "$program: standard output: No space left on device\n" sh -c "$bin $junction $plan > /dev/full"
+    same "$program to a closed output" '' "$program: standard output: Bad file descriptor\n" sh -c "$bin $junction $plan >&-"
+done
+
+[ $failed = 0 ] && echo "programs: judge, plan, delay and intergreens write what they should"
 exit $failed

@@ -5,6 +5,7 @@ import ctypes
 import os
 import pathlib
 import re
+import struct
 import subprocess
 import sys
 
@@ -54,6 +55,16 @@ def told_judgement(words, junction):
     return outcome(givendra.judge, file_of(junction), file_of(words)) or "accepted"
 
 
+def told_delay(words, junction):
+    stream, _, words = words.strip().partition(" ")
+    told = outcome(givendra.delay, file_of(junction), file_of(words), int(stream))
+    if isinstance(told, str):
+        return told
+    word = {givendra.DELAY: "delay", givendra.SATURATION: "saturation", givendra.NO_RED: "no red"}[told.outcome]
+    bits = struct.pack(">d", told.value).hex()
+    return "%s %s" % (word if told.outcome == givendra.NO_RED and told.value == 0 else word + " " + bits, told.level)
+
+
 def told_plan(words, _):
     """The bytes behind the lent ones, and of these all behind the plan file, stay as they were. Working out without a lent buffer answers alike."""
     room, _, words = words.strip().partition(" ")
@@ -75,7 +86,7 @@ def answered(case):
     if not line or line.startswith("#"):
         return line
     head, _, words = line.partition(":")
-    told = {"read": told_reading, "judge": told_judgement, "plan": told_plan}[head.split()[0]]
+    told = {"read": told_reading, "judge": told_judgement, "delay": told_delay, "plan": told_plan}[head.split()[0]]
     return "%s: %s" % (head, told(words, junction))
 
 
@@ -131,13 +142,13 @@ def declarations():
     text = (root / "include" / "givendra.h").read_text()
     block = text.partition('\nextern "C" {\n')[2].partition("\n}\n")[0]
     same("RELEASE", givendra.RELEASE, int(re.search(r"#define GIVENDRA_RELEASE (\d+)", text)[1]))
-    types = {"size_t": ctypes.c_size_t, "uint8_t": ctypes.c_uint8, "uint16_t": ctypes.c_uint16, "uint32_t": ctypes.c_uint32,
+    types = {"size_t": ctypes.c_size_t, "uint8_t": ctypes.c_uint8, "uint16_t": ctypes.c_uint16, "uint32_t": ctypes.c_uint32, "double": ctypes.c_double,
              "const uint8_t *": ctypes.c_char_p, "uint8_t *": ctypes.POINTER(ctypes.c_uint8)}
     for name, members in re.findall(r"^struct (\w+) \{\n(.*?)^\};", block, re.DOTALL | re.MULTILINE):
-        struct = getattr(givendra, "_" + name.replace("givendra", "").title().replace("_", ""), None)
-        same(name, struct and struct._fields_, [(member, types[kind]) for kind, member in re.findall(r"^ +(\w+) (\w+);", members, re.MULTILINE)])
-        types["struct " + name] = struct
-        types["const struct %s *" % name] = ctypes.POINTER(struct)
+        declared = getattr(givendra, "_" + name.replace("givendra", "").title().replace("_", ""), None)
+        same(name, declared and declared._fields_, [(member, types[kind]) for kind, member in re.findall(r"^ +(\w+) (\w+);", members, re.MULTILINE)])
+        types["struct " + name] = declared
+        types["const struct %s *" % name] = ctypes.POINTER(declared)
     functions = {}
     for answer, name, words in re.findall(r"^(\w.*) givendra_(\w+)\((.*)\);$", block, re.MULTILINE):
         kinds = [re.match(r".*[ *](?=\w+$)", word)[0] for word in words.split(", ") if word != "void"]
@@ -163,6 +174,9 @@ def own():
         same("stream %r" % stream, outcome(givendra.need, junction, stream, 50), expected)
     for cycle in (-1, 65536 + 50):
         same("cycle %d" % cycle, outcome(givendra.need, junction, 1, cycle), "OverflowError")
+    plan = (root / "examples" / "whole_case.plan").read_bytes()
+    for stream, expected in ((-1, "OverflowError"), (1 << 64, "OverflowError"), (1.0, "TypeError"), ((1 << 64) - 1, "refused 9 18446744073709551615")):
+        same("the delay of stream %r" % stream, outcome(givendra.delay, junction, plan, stream), expected)
     same("a buffer that cannot be written", outcome(givendra.work_out_into, junction, bytes(21)), "TypeError")
     same("a green of no stream", outcome(givendra.green, b"", -1), "OverflowError")
 

@@ -49,6 +49,16 @@ pub struct CountRecord {
     pub period: u8,
 }
 
+#[repr(C)]
+#[derive(Clone, Copy, PartialEq, Debug)]
+pub struct DelayAnswer {
+    pub place: usize,
+    pub refusal: u8,
+    pub outcome: u8,
+    pub level: u8,
+    pub value: f64,
+}
+
 // Not bundled: only a program that calls the library needs it, so tests that do not are linked without it.
 #[link(name = "givendra", kind = "static", modifiers = "-bundle")]
 extern "C" {
@@ -60,5 +70,6 @@ extern "C" {
     pub fn givendra_need(junction: *const u8, junction_length: usize, stream: usize, cycle: u16) -> Figure;
     pub fn givendra_saturation_flow(junction: *const u8, junction_length: usize, stream: usize) -> Figure;
     pub fn givendra_flow_ratio(junction: *const u8, junction_length: usize, stream: usize) -> Figure;
+    pub fn givendra_delay(junction: *const u8, junction_length: usize, plan: *const u8, plan_length: usize, stream: usize) -> DelayAnswer;
     pub fn givendra_newest_count(list: *const CountRecord, list_length: usize, stream: usize, design_day: u16, period: usize) -> Figure;
 }

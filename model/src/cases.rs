@@ -6,12 +6,14 @@
 //! - `read LABEL: HEX` is a junction file; `taken S Z C` with the numbers of streams, zones and counts is printed, or
 //!   `refused N P`;
 //! - `judge LABEL: HEX` is a plan file; `accepted` or `refused N P` is printed;
+//! - `delay LABEL: STREAM HEX` is a stream's number and a plan file; `delay BITS LEVEL`, `saturation BITS F`, `no red A` or
+//!   `refused N P` is printed, where BITS are the 64 bits of the number in 16 hexadecimal digits;
 //! - `plan LABEL: SIZE HEX` is the lent buffer's size and a junction file; the cycle, the tried count and the plan file are
 //!   printed, or `refused N P`, then `kept` where the rest of the buffer is as it was.
 //!
 //! Bytes are in lower-case hexadecimal, with or without spaces; `*N` after a byte stands for that byte N times.
 
-use crate::{judge, read_junction, Refusal};
+use crate::{delay, judge, read_junction, Delay, Refusal};
 
 /// The bytes that a text stands for.
 pub fn bytes_of(text: &str) -> Vec<u8> {
@@ -81,6 +83,7 @@ fn case(head: &str, text: &str, junction: &[u8]) -> String {
     match head.split_once(' ') {
         Some(("read", _)) => read(&bytes_of(text)),
         Some(("judge", _)) => answer(judge(junction, &bytes_of(text))),
+        Some(("delay", _)) => delayed(text, junction),
         Some(("plan", _)) => planned(text),
         _ => panic!("not known: {head}"),
     }
@@ -94,16 +97,27 @@ fn read(junction: &[u8]) -> String {
     }
 }
 
-/// The size of the lent buffer and the junction file of a case.
-fn size_and_file(text: &str) -> (usize, Vec<u8>) {
+/// The delay's answer in words.
+fn delayed(text: &str, junction: &[u8]) -> String {
+    let (stream, plan) = number_and_file(text);
+    match delay(junction, &plan, stream) {
+        Ok(d @ Delay::Seconds(value)) => format!("delay {:016x} {}", value.to_bits(), d.level()),
+        Ok(d @ Delay::Oversaturated(value)) => format!("saturation {:016x} {}", value.to_bits(), d.level()),
+        Ok(d @ Delay::NoRed) => format!("no red {}", d.level()),
+        Err(r) => answer(Err(r)),
+    }
+}
+
+/// The number of a case, a stream's or the size of the lent buffer, and the file after it.
+fn number_and_file(text: &str) -> (usize, Vec<u8>) {
     let text = text.strip_prefix(' ').unwrap_or(text);
-    let (size, hex) = text.split_once(' ').unwrap_or((text, ""));
-    (size.parse().expect("a size"), bytes_of(hex))
+    let (number, hex) = text.split_once(' ').unwrap_or((text, ""));
+    (number.parse().expect("a number"), bytes_of(hex))
 }
 
 /// The planner's answer in words, with what became of the buffer, which is filled with 0xa5 before.
 fn planned(text: &str) -> String {
-    let (size, junction) = size_and_file(text);
+    let (size, junction) = number_and_file(text);
     let mut buffer = vec![0xa5; size];
     let (words, written) = match crate::work_out(&junction, &mut buffer) {
         Ok(w) => {

@@ -1,12 +1,14 @@
 //! Random junctions that are taken, and random plans for them that are well-formed.
 
 use crate::annex::{crossing_quotient, need, saturation};
+use crate::delay::{figures, Delay, LEVELS};
 use crate::exact::whole;
 use crate::junction::*;
 use crate::plan::{Green, Plan};
 use crate::random::Random;
 use crate::times::{accelerating, Entries};
 use crate::work_out::work_out;
+use std::cmp::Ordering;
 
 // ---- junctions
 
@@ -43,10 +45,7 @@ pub fn make_junction(r: &mut Random, phases: i64, streams: i64, zones: i64, coun
             Stream { phase, kind: random_kind(r, roots, i == 0) }
         })
         .collect();
-    for i in (1..list.len()).rev() {
-        let other = r.from_to(0, i as i64) as usize;
-        list.swap(i, other);
-    }
+    shuffle(r, &mut list);
 
     let (number, period) = (r.from_to(0, 65535) as u16, r.from_to(1, 4) as u8);
     let mut junction = Junction { number, design_day, period, streams: list, zones: vec![], counts: vec![] };
@@ -99,11 +98,16 @@ pub fn make_junction(r: &mut Random, phases: i64, streams: i64, zones: i64, coun
             }
         }
     }
-    for i in (1..junction.counts.len()).rev() {
-        let other = r.from_to(0, i as i64) as usize;
-        junction.counts.swap(i, other);
-    }
+    shuffle(r, &mut junction.counts);
     junction
+}
+
+/// In any order.
+fn shuffle<T>(r: &mut Random, list: &mut [T]) {
+    for i in (1..list.len()).rev() {
+        let other = r.from_to(0, i as i64) as usize;
+        list.swap(i, other);
+    }
 }
 
 /// What a car can carry where each phase has its share of the cycle, and so much of the junction is used, in percent.
@@ -405,4 +409,189 @@ pub fn any_plan(r: &mut Random, junction: &Junction) -> Plan {
 pub fn worked_plan(junction: &Junction) -> Option<Plan> {
     let mut buffer = [0; 5 + 8 * STREAM_LIMIT];
     work_out(&junction.to_file(), &mut buffer).ok().map(|w| w.plan)
+}
+
+// ---- accepted plans that are made for a delay
+
+/// A car, the length of its green, the cycle and its flow, which it can carry.
+#[derive(Clone, Copy, Debug)]
+pub struct Load {
+    pub car: Car,
+    pub length: u16,
+    pub cycle: u16,
+    pub flow: u16,
+}
+
+impl Load {
+    /// The answer about it.
+    pub fn delay(&self) -> Delay {
+        figures(self.length, self.cycle, self.flow, saturation(&self.car)).delay()
+    }
+
+    /// The greatest flow that it can carry, as far as a count can say it.
+    fn capacity(&self) -> u16 {
+        (saturation(&self.car) * (self.length as i64 + 1) / self.cycle as i64).min(9_999) as u16
+    }
+}
+
+/// Greens for which the delay by exact fractions is 25, 35, 50, 70 or 100 s: it comes out as that, or a few steps below or above.
+/// Length, cycle and flow; width, gradient and conditions of a straight car without shares.
+const AT_LIMITS: [(u16, u16, u16, u16, i16, u8); 20] = [
+    (17, 60, 642, 540, 0, 2),
+    (19, 60, 405, 300, 9, 1),
+    (29, 70, 750, 330, -4, 2),
+    (22, 69, 378, 300, 9, 1),
+    (55, 112, 1296, 540, 0, 1),
+    (55, 140, 756, 540, 0, 2),
+    (13, 56, 459, 588, 10, 2),
+    (74, 125, 1089, 375, 0, 2),
+    (20, 35, 1566, 540, 0, 2),
+    (29, 108, 810, 540, 0, 1),
+    (44, 165, 1080, 959, -6, 2),
+    (80, 156, 1000, 543, 9, 2),
+    (14, 93, 320, 675, 10, 2),
+    (47, 160, 1008, 567, -7, 2),
+    (26, 177, 150, 567, 10, 3),
+    (15, 176, 108, 679, 0, 2),
+    (41, 70, 783, 300, 9, 2),
+    (26, 171, 588, 760, 0, 2),
+    (31, 60, 702, 300, 9, 2),
+    (8, 153, 144, 583, 0, 2),
+];
+
+fn random_car(r: &mut Random) -> Car {
+    let Kind::Car(car) = random_kind(r, false, true) else { unreachable!("a car is asked for") };
+    car
+}
+
+/// Any green of any load, now and then as long as the cycle or a second shorter.
+fn any_load(r: &mut Random, cycle: u16) -> Load {
+    let length = if r.one_in(6) { cycle - r.from_to(0, 1) as u16 } else { r.from_to(8, cycle as i64) as u16 };
+    let load = Load { car: random_car(r), length, cycle, flow: 1 };
+    let capacity = load.capacity() as i64;
+    let flow = if r.one_in(8) { r.pick(&[1, capacity - 1, capacity]) } else { r.from_to(capacity / 3, capacity) };
+    Load { flow: flow.max(1) as u16, ..load }
+}
+
+/// A green that is used to exact capacity, with some red, whose u comes out below 1, as 1 or above 1.
+fn full_load(r: &mut Random, u: Ordering) -> Load {
+    loop {
+        let cycle = r.from_to(10, 180) as u16;
+        let load = Load { car: random_car(r), length: r.from_to(8, cycle as i64 - 2) as u16, cycle, flow: 1 };
+        let load = Load { flow: load.capacity(), ..load };
+        let s = saturation(&load.car);
+        let full = load.flow as i64 * cycle as i64 == s * (load.length as i64 + 1);
+        if full && figures(load.length, cycle, load.flow, s).u.partial_cmp(&1.0) == Some(u) {
+            return load;
+        }
+    }
+}
+
+/// A green without red that is used to exact capacity: u is 1 too.
+fn full_load_without_red(r: &mut Random, cycle: u16) -> Load {
+    loop {
+        let load = Load { car: random_car(r), length: cycle - 1, cycle, flow: 1 };
+        if saturation(&load.car) <= 9_999 {
+            return Load { flow: load.capacity(), ..load };
+        }
+    }
+}
+
+/// A green with the greatest flow whose delay is still of a level, or with one unit more.
+fn load_near_limit(r: &mut Random, cycle: u16) -> Load {
+    loop {
+        let load = Load { car: random_car(r), length: r.from_to(8, cycle as i64 - 2) as u16, cycle, flow: 1 };
+        let limit = r.pick(&LEVELS).0;
+        let within = |flow: u16| matches!(Load { flow, ..load }.delay(), Delay::Seconds(d) if d <= limit);
+        // the delay grows with the flow
+        let (mut flow, mut beyond) = (0, load.capacity() + 1);
+        while flow + 1 < beyond {
+            let middle = (flow + beyond) / 2;
+            if within(middle) { flow = middle } else { beyond = middle }
+        }
+        if flow > 0 {
+            let flow = (flow + r.from_to(0, 1) as u16).min(load.capacity());
+            return Load { flow, ..load };
+        }
+    }
+}
+
+/// One of the greens at a limit.
+fn load_at_limit(r: &mut Random) -> Load {
+    let (length, cycle, flow, width, gradient, conditions) = r.pick(&AT_LIMITS);
+    let straight = Car { radius: 0, left: 0, right: 0, ..random_car(r) };
+    Load { car: Car { width, gradient, conditions, ..straight }, length, cycle, flow }
+}
+
+/// A junction without zones, in which every car has a load on purpose and every stream its need or more, and its plan: it is
+/// accepted. Most cars have other counts as well, which must not give the flow.
+pub fn loaded_junction(r: &mut Random) -> (Junction, Plan) {
+    let cycle = r.from_to(10, 180) as u16;
+    let first = match r.from_to(1, 9) {
+        1 => full_load(r, Ordering::Less),
+        2 => full_load(r, Ordering::Equal),
+        3 => full_load(r, Ordering::Greater),
+        4 => load_at_limit(r),
+        5 | 6 => load_near_limit(r, cycle),
+        7 => full_load_without_red(r, cycle),
+        _ => any_load(r, cycle),
+    };
+    let cycle = first.cycle;
+    let mut loads = vec![Some(first)];
+    for _ in 0..r.pick(&[0, 1, 2, 3, 7]) {
+        loads.push(Some(if r.one_in(2) { any_load(r, cycle) } else { load_near_limit(r, cycle) }));
+    }
+    // streams that are no cars
+    for _ in 0..r.pick(&[1, 1, 2, 3, 8]) {
+        loads.push(None);
+    }
+    shuffle(r, &mut loads);
+
+    let design_day = r.pick(&[0, 1, 9000, 9000, 65535]);
+    let (number, period) = (r.from_to(0, 65535) as u16, r.from_to(1, 4) as u8);
+    let mut junction = Junction { number, design_day, period, streams: vec![], zones: vec![], counts: vec![] };
+    let mut plan = Plan { cycle, greens: vec![] };
+    let phases = r.from_to(2, loads.len().min(6) as i64);
+    for (i, load) in loads.iter().enumerate() {
+        let phase = if (i as i64) < phases { i as i64 + 1 } else { r.from_to(1, phases) } as u8;
+        let (kind, length) = match load {
+            Some(load) => (Kind::Car(load.car), load.length),
+            None => other_green(r, cycle),
+        };
+        junction.streams.push(Stream { phase, kind });
+        plan.greens.push(Green { start: r.from_to(0, cycle as i64 - 1) as u16, length });
+        if let Some(load) = load {
+            let count_day = design_day.saturating_sub(r.pick(&[0, 0, 1, 300]));
+            let (stream, file_day) = (i as u8 + 1, r.from_to(0, 65535) as u16);
+            let own = Count { stream, count_day, file_day, flow: load.flow, period };
+            junction.counts.push(own);
+            for _ in 0..r.pick(&[0, 1, 1, 2]) {
+                junction.counts.push(not_chosen(r, &own, design_day));
+            }
+        }
+    }
+    shuffle(r, &mut junction.counts);
+    (junction, plan)
+}
+
+/// A stream that is no car, with its need at this cycle or more.
+fn other_green(r: &mut Random, cycle: u16) -> (Kind, u16) {
+    loop {
+        let kind = random_kind(r, false, false);
+        let need = need(&kind, cycle as i64);
+        if !matches!(kind, Kind::Car(_)) && need <= cycle as i64 {
+            return (kind, r.from_to(need, cycle as i64) as u16);
+        }
+    }
+}
+
+/// A count of the same car that does not give its flow: of another period, after the design day, older, or not larger on the day.
+fn not_chosen(r: &mut Random, own: &Count, design_day: u16) -> Count {
+    let (file_day, flow) = (r.from_to(0, 65535) as u16, r.from_to(1, 9_999) as u16);
+    match r.from_to(1, 6) {
+        1..=3 => of_another_period(r, own.stream as usize, design_day, own.period, own.flow as i64),
+        4 if design_day < 65535 => Count { count_day: design_day + 1, file_day, flow, ..*own },
+        5 if own.count_day > 0 => Count { count_day: own.count_day - 1, file_day, flow, ..*own },
+        _ => Count { file_day, flow: r.from_to(1, own.flow as i64) as u16, ..*own },
+    }
 }

@@ -1,6 +1,6 @@
 //! A second implementation of document 01 ("Junction timing by the annex of RD-02-21-2"), with requests 2026-01 (crossings with
-//! an island), 2026-02 (trams past forty metres), 2026-03 (no answer changed) and 2026-04 (periods) of document 02, written
-//! apart from the first.
+//! an island), 2026-02 (trams past forty metres), 2026-03 (no answer changed), 2026-04 (periods) and 2026-05 (delay and level
+//! of service) of document 02, written apart from the first.
 //!
 //! It is written by the most direct reading and not for speed, so that it can be read beside the paper:
 //! - `exact`:    seconds as fractions and roots, compared exactly;
@@ -10,12 +10,14 @@
 //! - `plan`:     the plan file, questions 11 to 13;
 //! - `judge`:    "Judging a plan": the rules 15, 16, 17;
 //! - `meaning`:  the same by brute force over three cycles, with neither `off` nor an entry;
+//! - `delay`:    the delay of a car in an accepted plan, and its level of service, in f64;
 //! - `work_out`: "Working out a plan", questions 21, 22, 23;
 //! - `random`, `generate`, `faults`: random junction and plan files for the tests, taken and refused;
 //! - `cases`:    the text form of the stored test cases.
 
 pub mod annex;
 pub mod cases;
+pub mod delay;
 pub mod exact;
 pub mod faults;
 pub mod generate;
@@ -27,6 +29,7 @@ pub mod random;
 pub mod times;
 pub mod work_out;
 
+pub use delay::{delay, Delay};
 pub use judge::judge;
 pub use junction::{read_junction, Junction};
 pub use meaning::meaning;

@@ -3,6 +3,7 @@ mod calls;
 use calls::*;
 use givendra_sys::{JunctionAnswer, PlanAnswer, GIVENDRA_RELEASE};
 use model::annex::{crossing_quotient, need as model_need, packet_quotient, saturation, y_of, TABLE_3};
+use model::delay::{delay_when_accepted, figures as delay_figures, Delay, LEVELS};
 use model::exact::Time;
 use model::faults::*;
 use model::generate::*;
@@ -39,9 +40,15 @@ impl Known {
     }
 
     fn judge(&self, plan: &[u8]) -> Result<(), Refusal> {
+        self.accepted(plan).map(|_| ())
+    }
+
+    /// Junction and plan, where the plan is accepted.
+    fn accepted(&self, plan: &[u8]) -> Result<(&Junction, Plan), Refusal> {
         let junction = self.read.as_ref().map_err(|e| *e)?;
         let plan = read_plan(plan, junction)?;
-        rules(junction, &plan, self.entries.as_ref().unwrap())
+        rules(junction, &plan, self.entries.as_ref().unwrap())?;
+        Ok((junction, plan))
     }
 
     fn work_out(&self, buffer: &mut [u8]) -> Result<&Worked, Refusal> {
@@ -528,13 +535,133 @@ fn figures() {
     hits.at_least(1_000, "refused file", &JUNCTION);
 }
 
+// ---- delays
+
+const LEVEL_COLUMNS: [&str; 6] = ["delay A", "delay B", "delay C", "delay D", "delay E", "delay F"];
+const OTHER_COLUMNS: [&str; 3] = ["saturation", "no red", "no red, u 1"];
+const FULL_COLUMNS: [&str; 3] = ["full, u below 1", "full, u 1", "full, u above 1"];
+const LIMIT_COLUMNS: [&str; 5] = ["25 s", "35 s", "50 s", "70 s", "100 s"];
+
+/// Streams of the junction, numbers that are none, and numbers whose last byte, two bytes or four bytes are a stream's.
+fn asked_streams(streams: usize) -> Vec<usize> {
+    let mut list = stream_numbers(streams);
+    list.extend((1..=streams).flat_map(|s| [256 + s, 65_536 + s, (1 << 32) + s]));
+    list
+}
+
+/// The columns of a car's answer: the outcome with its level, and what is met exactly, capacity or a level's limit.
+fn delay_columns(junction: &Junction, plan: &Plan, stream: usize, answer: Delay) -> Vec<&'static str> {
+    let Kind::Car(car) = junction.stream(stream).kind else { panic!("no car: {stream}") };
+    let (s, flow, length) = (saturation(&car), junction.flow(stream).expect("question 9"), plan.green(stream).length);
+    let mut columns = match answer {
+        Delay::Seconds(_) => vec![LEVEL_COLUMNS[answer.level() as usize - 'A' as usize]],
+        Delay::Oversaturated(_) => vec![OTHER_COLUMNS[0]],
+        Delay::NoRed => vec![OTHER_COLUMNS[1]],
+    };
+    let u = delay_figures(length, plan.cycle, flow, s).u;
+    if answer == Delay::NoRed && u >= 1.0 {
+        columns.push(OTHER_COLUMNS[2]);
+    }
+    if answer != Delay::NoRed && flow as i64 * plan.cycle as i64 == s * (length as i64 + 1) {
+        columns.push(FULL_COLUMNS[if u < 1.0 { 0 } else if u == 1.0 { 1 } else { 2 }]);
+    }
+    if let Some(limit) = LEVELS.iter().position(|level| answer == Delay::Seconds(level.0)) {
+        columns.push(LIMIT_COLUMNS[limit]);
+    }
+    columns
+}
+
+/// The delay of each of these streams.
+fn check_delays(hits: &mut Hits, sorts: &mut Hits, junction: &Lent, plan: &Lent, known: &Known, streams: &[usize]) {
+    let accepted = known.accepted(plan.bytes());
+    for &stream in streams {
+        let model = accepted.as_ref().map_err(|e| *e).and_then(|(j, plan)| delay_when_accepted(j, plan, stream));
+        let wanted = delayed(model);
+        same(&format!("delay of {stream}"), delay(junction, plan, stream), wanted, junction.bytes(), plan.bytes());
+        let column = match &accepted {
+            Ok((j, _)) if (1..=j.streams.len()).contains(&stream) => "accepted, stream",
+            Ok(_) => "accepted, none",
+            Err(_) if (1..=16).contains(&stream) => "refused, 1 to 16",
+            Err(_) => "refused, others",
+        };
+        hits.hit(column, wanted.refusal);
+        if let (Ok((j, plan)), Ok(answer)) = (&accepted, model) {
+            delay_columns(j, plan, stream, answer).iter().for_each(|column| sorts.hit(column, 0));
+        }
+    }
+}
+
+/// Where the plan is accepted, all numbers; else one of the streams and one of all.
+fn check_delays_of_plan(r: &mut Random, hits: &mut Hits, sorts: &mut Hits, junction: &Lent, plan: &[u8], known: &Known) {
+    let streams = known.read.as_ref().map_or(2, |j| j.streams.len());
+    let all = asked_streams(streams);
+    let two = [r.from_to(1, streams as i64) as usize, r.pick(&all)];
+    let asked = if known.judge(plan).is_ok() { &all[..] } else { &two };
+    check_delays(hits, sorts, junction, &Lent::new(r, plan), known, asked);
+    // the model over the files
+    let stream = r.pick(&all);
+    let answer = delay(junction, &Lent::new(r, plan), stream);
+    same("delay over the files", answer, delayed(model::delay(junction.bytes(), plan, stream)), junction.bytes(), plan);
+}
+
+/// Cars with a load on purpose, plans of every sort for junctions with zones, and junctions that are refused.
+#[test]
+fn delays() {
+    let mut r = Random::new(seed("delays", 28));
+    let mut hits = Hits::new(&["accepted, stream", "accepted, none", "refused, 1 to 16", "refused, others"]);
+    let mut sorts = Hits::new(&[&LEVEL_COLUMNS[..], &OTHER_COLUMNS, &FULL_COLUMNS, &LIMIT_COLUMNS].concat());
+    for _ in 0..16_000 {
+        let (junction, plan) = loaded_junction(&mut r);
+        let known = Known::of(&junction.to_file());
+        let file = Lent::new(&mut r, &junction.to_file());
+        // a second less or more is often refused
+        for plan in [moved(&mut r, &plan), plan] {
+            check_delays_of_plan(&mut r, &mut hits, &mut sorts, &file, &plan.to_file(), &known);
+        }
+    }
+    let mut other = vec![];
+    for _ in 0..4_000 {
+        let junction = if r.one_in(12) { limit_junction(&mut r) } else { rich_junction(&mut r) };
+        let known = Known::of(&junction.to_file());
+        let file = Lent::new(&mut r, &junction.to_file());
+        for i in 0..6 {
+            let good = some_plan(&mut r, &junction, &known).to_file();
+            let plan = if i % 3 == 0 { good.clone() } else { faulty_plan(&mut r, &good, &other) };
+            check_delays_of_plan(&mut r, &mut hits, &mut sorts, &file, &plan, &known);
+            other = good;
+        }
+    }
+    while JUNCTION.iter().any(|&n| hits.of("refused, others", n) < 1_000) {
+        let file = faulty_junction(&mut r);
+        if let Err(refusal) = model::read_junction(&file) {
+            let known = Known { read: Err(refusal), entries: None, worked: Err(refusal) };
+            let file = Lent::new(&mut r, &file);
+            check_delays_of_plan(&mut r, &mut hits, &mut sorts, &file, &other, &known);
+        }
+    }
+    hits.print();
+    sorts.print();
+    hits.at_least(10_000, "accepted, stream", &[0, 9]);
+    hits.at_least(10_000, "accepted, none", &[9]);
+    for column in ["refused, 1 to 16", "refused, others"] {
+        hits.at_least(1_000, column, &JUNCTION);
+        hits.at_least(1_000, column, &[11, 12, 13, 15, 16, 17]);
+    }
+    for column in [&LEVEL_COLUMNS[..], &OTHER_COLUMNS, &FULL_COLUMNS].concat() {
+        sorts.at_least(1_000, column, &[0]);
+    }
+    for column in LIMIT_COLUMNS {
+        sorts.at_least(100, column, &[0]);
+    }
+}
+
 // ---- file days
 
 /// Other file days, and no answer of any entry changes.
 #[test]
 fn file_days() {
     let mut r = Random::new(seed("file_days", 14));
-    let mut hits = Hits::new(&["judge", "work_out"]);
+    let mut hits = Hits::new(&["judge", "delay", "work_out"]);
     for _ in 0..4_000 {
         let junction = if r.one_in(12) { limit_junction(&mut r) } else { rich_junction(&mut r) };
         let mut other = junction.clone();
@@ -548,6 +675,11 @@ fn file_days() {
         let answer = judge(&one, &plan);
         same("judge with other file days", judge(&two, &plan), answer, one.bytes(), plan.bytes());
         hits.hit("judge", answer.refusal);
+        for s in 0..=junction.streams.len() {
+            let answer = delay(&one, &plan, s);
+            same("delay with other file days", delay(&two, &plan, s), answer, one.bytes(), plan.bytes());
+            hits.hit("delay", answer.refusal);
+        }
         same("read_junction with other file days", read_junction(&two), read_junction(&one), one.bytes(), &[]);
         let (mut a, mut b) = (Lent::new(&mut r, &[7; 133]), Lent::new(&mut r, &[7; 133]));
         let answer = work_out(&one, &mut a);
@@ -565,6 +697,7 @@ fn file_days() {
     }
     hits.print();
     hits.at_least(1_000, "judge", &[0]);
+    hits.at_least(1_000, "delay", &[0, 9]);
     hits.at_least(1_000, "work_out", &[0]);
 }
 
@@ -590,9 +723,9 @@ fn with_other_counts(r: &mut Random, junction: &Junction) -> (&'static str, Junc
 fn other_periods() {
     let mut r = Random::new(seed("other_periods", 20));
     let sorts = ["changed", "added", "removed", "all three"];
-    let entries = ["judge", "work_out", "intergreen", "need", "saturation_flow", "flow_ratio"];
+    let entries = ["judge", "delay", "work_out", "intergreen", "need", "saturation_flow", "flow_ratio"];
     // where the answers would differ if the periods of the counts were not looked at
-    let without = ["judge, without", "worked, without", "ratio, without"];
+    let without = ["judge, without", "delay, without", "worked, without", "ratio, without"];
     let mut hits = Hits::new(&[&sorts[..], &entries, &without].concat());
     let mut pairs = 0;
     while pairs < 6_000 {
@@ -618,6 +751,14 @@ fn other_periods() {
             if plain.judge(plan.bytes()) != plain_other.judge(plan.bytes()) {
                 hits.hit("judge, without", answer.refusal);
             }
+            for s in 0..=junction.streams.len() {
+                let answer = delay(&one, &plan, s);
+                same("delay with other counts of other periods", delay(&two, &plan, s), answer, two.bytes(), plan.bytes());
+                hits.hit("delay", answer.refusal);
+                if answer.refusal == 0 && plain.read.as_ref().map(|j| j.flow(s)) != plain_other.read.as_ref().map(|j| j.flow(s)) {
+                    hits.hit("delay, without", answer.refusal);
+                }
+            }
         }
         let size = 5 + 8 * junction.streams.len();
         let size = r.pick(&[size - 1, size, size + 9, size + 9, size + 9]);
@@ -637,7 +778,7 @@ fn other_periods() {
             });
             let what = format!("figures with other counts of other periods, stream {s}, to {t}, cycle {cycle}");
             same(&what, answers[1], answers[0], two.bytes(), &[]);
-            for (name, answer) in entries[2..].iter().zip(answers[0]) {
+            for (name, answer) in entries[3..].iter().zip(answers[0]) {
                 hits.hit(name, answer.refusal);
             }
             if junction.streams.get(s.wrapping_sub(1)).is_some_and(|stream| stream.is_car())
@@ -659,7 +800,9 @@ fn other_periods() {
     for name in ["intergreen", "need", "saturation_flow", "flow_ratio"] {
         hits.at_least(1_000, name, &[0, 7]);
     }
+    hits.at_least(1_000, "delay", &[0, 9, 15, 16, 17]);
     hits.at_least(500, "judge, without", &[0]);
+    hits.at_least(1_000, "delay, without", &[0]);
     hits.at_least(500, "worked, without", &[0]);
     hits.at_least(1_000, "ratio, without", &[0]);
 }

@@ -1,6 +1,7 @@
 //! Random junctions and plans: the judge against the meaning, the planner against the judge.
-use model::annex::{crossing_quotient, need, packet_quotient};
-use model::exact::{fraction, whole, Time};
+use model::annex::{crossing_quotient, need, packet_quotient, saturation};
+use model::delay::{delay_when_accepted, figures, Delay, LEVELS};
+use model::exact::{fraction, whole, Fraction, Time};
 use model::faults::*;
 use model::generate::*;
 use model::judge::rules;
@@ -8,7 +9,7 @@ use model::junction::{is_period, read_junction, two, Count, IslandCrossing, Junc
 use model::meaning::meaning_over;
 use model::random::{seed, Random};
 use model::times::{entry, leaving, reaching, Entries};
-use model::{judge, meaning, read_plan, work_out, Refusal};
+use model::{delay, judge, meaning, read_plan, work_out, Plan, Refusal};
 use std::collections::BTreeMap;
 
 fn is_island(stream: &Stream) -> bool {
@@ -769,4 +770,196 @@ fn counted_in_another_period(file: &[u8], car: usize) -> bool {
         other[7] = period;
         !matches!(read_junction(&other), Err(Refusal { number: 9, place }) if place <= car)
     })
+}
+
+// ---- delays
+
+/// A car's green and what decides its delay.
+#[derive(Clone, Copy, Debug)]
+struct Green {
+    length: u16,
+    cycle: u16,
+    flow: u16,
+    s: i64,
+}
+
+impl Green {
+    /// That of a car of the junction; none of another stream.
+    fn of(junction: &Junction, plan: &Plan, stream: usize) -> Option<Green> {
+        let Kind::Car(car) = junction.stream(stream).kind else { return None };
+        let flow = junction.flow(stream).expect("question 9");
+        Some(Green { length: plan.green(stream).length, cycle: plan.cycle, flow, s: saturation(&car) })
+    }
+
+    fn delay(self) -> Delay {
+        figures(self.length, self.cycle, self.flow, self.s).delay()
+    }
+
+    /// S x (length + 1) and flow x C.
+    fn capacity_and_demand(self) -> (i128, i128) {
+        (self.s as i128 * (self.length as i128 + 1), self.flow as i128 * self.cycle as i128)
+    }
+
+    /// u as a fraction.
+    fn exact_u(self) -> Fraction {
+        let (capacity, demand) = self.capacity_and_demand();
+        fraction(demand, capacity)
+    }
+
+    /// d as a fraction, for g and u below 1. With n = length + 1, g x u is flow/S, so that
+    /// A = (C - n) x (C - n) x S/(2 x C x C x (S - flow)), and B/flow = flow x C x C/(2 x n x S x (n x S - flow x C)).
+    fn exact_d(self) -> Fraction {
+        let (c, n, flow, s) = (self.cycle as i128, self.length as i128 + 1, self.flow as i128, self.s as i128);
+        let (capacity, demand) = self.capacity_and_demand();
+        let first = fraction((c - n) * (c - n) * s, 2 * c * (s - flow));
+        let second = fraction(1_800 * flow * c * c, capacity * (capacity - demand));
+        fraction(9, 10) * (first + second)
+    }
+}
+
+/// How far a number lies from an exact one that is not 0, as a part of that.
+fn apart(number: f64, exact: Fraction) -> f64 {
+    (number / Time::plain(exact).about() - 1.0).abs()
+}
+
+/// What an operation in f64 is rounded by at most, as a part of its result.
+const STEP: f64 = f64::EPSILON / 2.0;
+
+/// The sort of answer about a green, after a look at all that is known of it.
+fn check_delay(green: Green) -> String {
+    let Green { length, cycle, flow, s } = green;
+    let (f, answer) = (figures(length, cycle, flow, s), green.delay());
+    let (capacity, demand) = green.capacity_and_demand();
+    assert!(demand <= capacity, "{green:?} is not accepted");
+    assert_eq!(answer == Delay::NoRed, length + 1 >= cycle, "{green:?}");
+    // u is rounded three times; what is exact here, three times as well
+    assert!(apart(f.u, green.exact_u()) <= 7.0 * STEP, "{green:?}: {f:?}");
+    match answer {
+        Delay::NoRed => "no red".to_string(),
+        Delay::Oversaturated(u) => {
+            assert!(u >= 1.0 && demand == capacity, "{green:?}: {f:?}");
+            if u == 1.0 { "full, u 1" } else { "full, u above 1" }.to_string()
+        }
+        Delay::Seconds(d) => {
+            assert!(d.is_finite() && d > 0.0, "{green:?}: {f:?}");
+            if demand == capacity {
+                assert!(f.u < 1.0 && d > 1e9 && answer.level() == 'F', "{green:?}: {f:?}");
+                return "full, u below 1".to_string();
+            }
+            // 1 - g and 1 - g x u are 1/180 or more, so that A is within 1,300 steps; B is within 9 + 3/(1 - u), where 1 - u is
+            // at least 1/(180 x 12,285), which no rounding of u comes near
+            assert!(apart(d, green.exact_d()) <= (1_400.0 + 4.0 / (1.0 - f.u)) * STEP, "{green:?}: {f:?}");
+            format!("delay {}", answer.level())
+        }
+    }
+}
+
+/// A longer green has a shorter delay and no worse level, a larger flow a longer delay and no better level.
+fn check_neighbours(green: Green) {
+    let no_worse = |this: Green, than: Green| {
+        let (one, other) = (this.delay(), than.delay());
+        assert!(one.level() <= other.level(), "{this:?} {one:?}, {than:?} {other:?}");
+        if let (Delay::Seconds(d), Delay::Seconds(e)) = (one, other) {
+            assert!(d < e, "{this:?} {d}, {than:?} {e}");
+        }
+    };
+    if green.length < green.cycle {
+        no_worse(Green { length: green.length + 1, ..green }, green);
+    }
+    let (capacity, demand) = green.capacity_and_demand();
+    if demand + green.cycle as i128 <= capacity {
+        no_worse(green, Green { flow: green.flow + 1, ..green });
+    }
+}
+
+/// Every stream of accepted plans: cars with a load on purpose, plans worked out and packed.
+#[test]
+fn delays_of_accepted_plans() {
+    let mut r = Random::new(seed("delays_of_accepted_plans", 26));
+    let mut sorts: BTreeMap<String, usize> = BTreeMap::new();
+    let mut hit = |sort: String| *sorts.entry(sort).or_default() += 1;
+    for i in 0..16_000 {
+        let (junction, plan) = if i % 4 > 0 {
+            loaded_junction(&mut r)
+        } else {
+            let junction = rich_junction(&mut r);
+            let plan = packed_plan(&mut r, &junction, &Entries::of(&junction));
+            (junction, plan)
+        };
+        let (file, plan_file) = (junction.to_file(), plan.to_file());
+        let (read, judged) = (read_junction(&file), judge(&file, &plan_file));
+        assert_eq!(read.as_ref(), Ok(&junction));
+        if i % 4 > 0 {
+            assert_eq!(judged, Ok(()), "{junction:?} {plan:?}");
+        }
+        let n = junction.streams.len();
+        for stream in (0..=n + 1).chain([17, 256 + n, 65_536 + n, (1 << 32) + n, usize::MAX]) {
+            let answer = delay(&file, &plan_file, stream);
+            if let Err(refusal) = judged {
+                assert_eq!(answer, Err(refusal), "stream {stream}");
+                hit("the judge's refusal".to_string());
+                continue;
+            }
+            assert_eq!(answer, delay_when_accepted(&junction, &plan, stream));
+            let car = if (1..=n).contains(&stream) { Green::of(&junction, &plan, stream) } else { None };
+            hit(match car {
+                Some(green) => {
+                    assert_eq!(answer, Ok(green.delay()));
+                    check_neighbours(green);
+                    check_delay(green)
+                }
+                None => {
+                    assert_eq!(answer, Err(Refusal { number: 9, place: stream }));
+                    if (1..=n).contains(&stream) { "no car" } else { "no stream" }.to_string()
+                }
+            });
+        }
+    }
+    println!("{sorts:?}");
+    // six levels, no red, three sorts of exact capacity; no car, no stream, refused plans
+    assert_eq!(sorts.len(), 6 + 1 + 3 + 3);
+    for (sort, times) in &sorts {
+        assert!(*times > 1_000, "{sort} came {times} times");
+    }
+}
+
+/// Every length and many flows at some cycles: what is accepted, from flow 1 to capacity.
+#[test]
+fn delays_over_all_lengths() {
+    let mut sorts: BTreeMap<String, usize> = BTreeMap::new();
+    for s in [629, 1_100, 1_925, 2_700, 3_240, 12_285] {
+        for cycle in [10, 20, 25, 50, 55, 64, 99, 100, 144, 171, 180u16] {
+            for length in 8..=cycle {
+                let most = (s * (length as i64 + 1) / cycle as i64).min(9_999) as u16;
+                for flow in (1..=most).step_by(37).chain(most.saturating_sub(4).max(1)..=most) {
+                    let green = Green { length, cycle, flow, s };
+                    check_neighbours(green);
+                    *sorts.entry(check_delay(green)).or_default() += 1;
+                }
+            }
+        }
+    }
+    println!("{sorts:?}");
+    assert_eq!(sorts.len(), 6 + 1 + 3);
+}
+
+/// The greens at a limit come out at it exactly, below and above it, for every limit.
+#[test]
+fn delays_at_the_limits_come_often() {
+    let mut r = Random::new(seed("delays_at_the_limits", 27));
+    let mut sorts: BTreeMap<(i64, &str), usize> = BTreeMap::new();
+    for _ in 0..40_000 {
+        let (junction, plan) = loaded_junction(&mut r);
+        for green in (1..=junction.streams.len()).filter_map(|s| Green::of(&junction, &plan, s)) {
+            let Delay::Seconds(d) = green.delay() else { continue };
+            let Some(limit) = LEVELS.iter().map(|level| level.0).find(|limit| (d - limit).abs() < 1e-12) else { continue };
+            let sort = if d < limit { "below" } else if d > limit { "above" } else { "met" };
+            *sorts.entry((limit as i64, sort)).or_default() += 1;
+        }
+    }
+    println!("{sorts:?}");
+    assert_eq!(sorts.len(), 5 * 3);
+    for (sort, times) in &sorts {
+        assert!(*times > 100, "{sort:?} came {times} times");
+    }
 }

@@ -1,13 +1,14 @@
-//! Every example of the readings that concerns the base, and what requests 2026-01 to 2026-04 add to it.
+//! Every example of the readings that concerns the base, and what requests 2026-01 to 2026-05 add to it.
 mod common;
 use common::*;
 use model::annex::need;
 use model::cases::bytes_of;
+use model::delay::{figures, Delay, LEVELS};
 use model::exact::{fraction, Time};
 use model::junction::*;
 use model::times::{entry, leaving, reaching, Entries};
 use model::work_out::{first_length, lost_time, phases, plan_for};
-use model::{judge, meaning, read_junction, read_plan, work_out, Refusal};
+use model::{delay, judge, meaning, read_junction, read_plan, work_out, Refusal};
 use std::ops::Range;
 
 fn reads(text: &str) -> Result<(), Refusal> {
@@ -771,4 +772,178 @@ fn periods_of_a_lent_list() {
     // place: the stream asked for, whatever it is
     assert_eq!(flow_of_list(&list, 300, 9_000, 1), refused(9, 300));
     assert_eq!(flow_of_list(&list, usize::MAX, 9_000, 0), refused(9, usize::MAX));
+}
+
+// ---- request 2026-05: delay and level of service
+
+/// Length, cycle, flow and S; then the bits of the delay, and its level.
+const DELAYS: [(u16, u16, u16, i64, u64, char); 22] = [
+    // the whole case; and length + 1 a second below the cycle
+    (35, 50, 600, 1925, 0x400ba3e6c2ee7cec, 'A'),
+    (48, 50, 600, 1925, 0x3fda77fa35ca797b, 'A'),
+    // exact capacity, u just below 1
+    (10, 20, 1485, 2700, 0x4341745d1745d175, 'F'),
+    (13, 25, 616, 1100, 0x434509f959c427e5, 'F'),
+    // 25 s: exactly; the real number is 25, and it comes out one step below or above
+    (17, 60, 642, 2700, 0x4039000000000000, 'A'),
+    (22, 69, 378, 1620, 0x4038ffffffffffff, 'A'),
+    (55, 112, 1296, 3240, 0x4039000000000001, 'B'),
+    // 35 s: exactly, and one step above
+    (55, 140, 756, 2700, 0x4041800000000000, 'B'),
+    (20, 35, 1566, 2700, 0x4041800000000001, 'C'),
+    // 50 s: exactly, and above
+    (29, 108, 810, 3240, 0x4049000000000000, 'C'),
+    (68, 180, 574, 1980, 0x404900000840f6c0, 'D'),
+    // 70 s: exactly, below and above
+    (47, 160, 1008, 3600, 0x4051800000000000, 'D'),
+    (21, 158, 196, 2075, 0x40517ffff798d269, 'D'),
+    (9, 144, 95, 2475, 0x405180000390cebf, 'E'),
+    // 100 s: exactly, below, and above, where the real number is 100
+    (26, 171, 588, 3990, 0x4059000000000000, 'E'),
+    (106, 146, 1648, 2275, 0x4058ffff6f0047f6, 'E'),
+    (124, 136, 1849, 2030, 0x40590000209f8ddb, 'F'),
+    (8, 153, 144, 3060, 0x4059000000000002, 'F'),
+    // the needed green at the longest cycle; one unit below capacity; the least flow; the greatest flow and S
+    (8, 180, 90, 1925, 0x4073f0e86815c198, 'F'),
+    (35, 50, 1385, 1925, 0x4099647a5ec68303, 'F'),
+    (35, 50, 1, 1925, 0x3ffc408e5b282266, 'A'),
+    (147, 180, 9999, 12285, 0x403d7abd70263ddd, 'B'),
+];
+
+/// Length, cycle, flow and S, all at exact capacity; then the bits of the saturation.
+const SATURATIONS: [(u16, u16, u16, i64, u64); 3] = [
+    (49, 100, 1350, 2700, 0x3ff0000000000000),
+    (35, 50, 1386, 1925, 0x3ff0000000000000),
+    (13, 55, 280, 1100, 0x3ff0000000000001),
+];
+
+#[test]
+fn delays_over_numbers() {
+    for (length, cycle, flow, s, bits, level) in DELAYS {
+        let answer = figures(length, cycle, flow, s).delay();
+        let Delay::Seconds(d) = answer else { panic!("{length} of {cycle}, {flow} of {s}: {answer:?}") };
+        assert_eq!((d.to_bits(), answer.level()), (bits, level), "{length} of {cycle}, {flow} of {s}: {d}");
+    }
+    for (length, cycle, flow, s, bits) in SATURATIONS {
+        assert_eq!(flow as i64 * cycle as i64, s * (length as i64 + 1));
+        let answer = figures(length, cycle, flow, s).delay();
+        let Delay::Oversaturated(u) = answer else { panic!("{length} of {cycle}, {flow} of {s}: {answer:?}") };
+        assert_eq!((u.to_bits(), answer.level()), (bits, 'F'), "{length} of {cycle}, {flow} of {s}: {u}");
+    }
+    // g is 1 or more: no red, whatever the flow; tested before the saturation
+    for (length, cycle) in [(7, 8), (8, 8), (49, 50), (50, 50), (179, 180), (180, 180)] {
+        for flow in [1, 600, 1925, 9_999] {
+            let answer = figures(length, cycle, flow, 1925).delay();
+            assert_eq!((answer, answer.level()), (Delay::NoRed, 'A'), "{length} of {cycle}, {flow}");
+        }
+    }
+}
+
+#[test]
+fn figures_of_the_whole_case() {
+    let f = figures(35, 50, 600, 1925);
+    let bits = [f.g, f.u, f.a, f.b, f.d].map(f64::to_bits);
+    assert_eq!(bits, [0x3fe70a3d70a3d70a, 0x3fdbb4a4046ed290, 0x3fad28ac8eb9ed71, 0x3fc5263ac2e53541, 0x400ba3e6c2ee7cec]);
+    // exact capacity, u just below 1
+    assert_eq!(figures(10, 20, 1485, 2700).u.to_bits(), 0x3fefffffffffffff);
+    assert_eq!(figures(13, 25, 616, 1100).u.to_bits(), 0x3feffffffffffffe);
+}
+
+/// Another order, another factor or an operation less that is rounded would give other bits: so the order written is shown to matter.
+#[test]
+fn other_orders_give_other_bits() {
+    let d = |f: u16, c: f64, a: f64, b: f64| 0.9 * (c * a + (3600.0 * b) / f as f64);
+    // 3600 x (B/flow), and u as (flow/g)/S
+    let f = figures(48, 50, 600, 1925);
+    assert_eq!(d(600, 50.0, f.a, f.b).to_bits(), 0x3fda77fa35ca797b);
+    assert_eq!((0.9 * (50.0 * f.a + 3600.0 * (f.b / 600.0))).to_bits(), 0x3fda77fa35ca797a);
+    let u = 600.0 / f.g / 1925.0;
+    let (a, b) = (((1.0 - f.g) * (1.0 - f.g)) / (2.0 * (1.0 - f.g * u)), (u * u) / (2.0 * (1.0 - u)));
+    assert_eq!(d(600, 50.0, a, b).to_bits(), 0x3fda77fa35ca797d);
+    // C x A and the sum fused; nine tenths by 9 and 10
+    let f = figures(35, 50, 600, 1925);
+    let fused = 50.0f64.mul_add(f.a, (3600.0 * f.b) / 600.0);
+    assert_eq!((0.9 * fused).to_bits(), 0x400ba3e6c2ee7ced);
+    assert_eq!((9.0 * (50.0 * f.a + (3600.0 * f.b) / 600.0) / 10.0).to_bits(), 0x400ba3e6c2ee7ced);
+    // 1 - g x u fused
+    let f = figures(35, 50, 305, 1925);
+    let a = ((1.0 - f.g) * (1.0 - f.g)) / (2.0 * (-f.g).mul_add(f.u, 1.0));
+    assert_eq!((f.d.to_bits(), d(305, 50.0, a, f.b).to_bits()), (0x4003683a3e01d1a4, 0x4003683a3e01d1a5));
+    // the squares of A and B divided factor by factor
+    let f = figures(35, 50, 304, 1925);
+    let (a, b) = ((1.0 - f.g) * ((1.0 - f.g) / (2.0 * (1.0 - f.g * f.u))), f.u * (f.u / (2.0 * (1.0 - f.u))));
+    assert_eq!(f.d.to_bits(), 0x400362be2094bb3b);
+    assert_eq!(d(304, 50.0, a, f.b).to_bits(), 0x400362be2094bb3c);
+    assert_eq!(d(304, 50.0, f.a, b).to_bits(), 0x400362be2094bb3a);
+    // 0.9 times each addend: above 25, and so another level
+    let f = figures(17, 60, 642, 2700);
+    let apart = 0.9 * (60.0 * f.a) + 0.9 * ((3600.0 * f.b) / 642.0);
+    assert_eq!((f.d, apart.to_bits()), (25.0, 0x4039000000000001));
+    assert_eq!((Delay::Seconds(f.d).level(), Delay::Seconds(apart).level()), ('A', 'B'));
+}
+
+/// A up to 25, B up to 35, C up to 50, D up to 70, E up to 100, else F; of the delay as it is, not rounded.
+#[test]
+fn limits_of_the_levels() {
+    assert_eq!(LEVELS, [(25.0, 'A'), (35.0, 'B'), (50.0, 'C'), (70.0, 'D'), (100.0, 'E')]);
+    let level = |d: f64| Delay::Seconds(d).level();
+    for (limit, this, next) in [(25.0, 'A', 'B'), (35.0, 'B', 'C'), (50.0, 'C', 'D'), (70.0, 'D', 'E'), (100.0f64, 'E', 'F')] {
+        for d in [limit.next_down(), limit, limit - 0.4, limit - 9.9] {
+            assert_eq!(level(d), this, "{d}");
+        }
+        for d in [limit.next_up(), limit + 0.000_001, limit + 0.4, limit + 9.9] {
+            assert_eq!(level(d), next, "{d}");
+        }
+    }
+    assert_eq!((level(0.1), level(1e16)), ('A', 'F'));
+    assert_eq!((Delay::Oversaturated(1.0).level(), Delay::NoRed.level()), ('F', 'A'));
+}
+
+/// Numbers of no stream of the whole case, some of which are 1 if they are cut.
+const NO_STREAMS: [usize; 11] = [0, 3, 16, 17, 255, 256, 257, 65_537, (1 << 32) + 1, usize::MAX - 254, usize::MAX];
+
+/// The judge's refusal first; then 9 for a stream that is no car or does not exist, place the number asked for.
+#[test]
+fn delay_of_which_stream() {
+    let (file, plan) = (bytes_of(WC), bytes_of(WP));
+    assert_eq!(delay(&file, &plan, 1), Ok(Delay::Seconds(f64::from_bits(0x400ba3e6c2ee7cec))));
+    assert_eq!(delay(&file, &plan, 2), refused(9, 2));
+    let no_count = Junction { counts: vec![count_in(1, 600, 2)], ..whole_case() }.to_file();
+    let much = Junction { counts: vec![count(1, 1_387)], ..whole_case() }.to_file();
+    for stream in NO_STREAMS {
+        assert_eq!(delay(&file, &plan, stream), refused(9, stream));
+    }
+    for stream in NO_STREAMS.into_iter().chain([1, 2]) {
+        assert_eq!(delay(&[], &[], stream), refused(8, 0));
+        assert_eq!(delay(&no_count, &plan, stream), refused(9, 1));
+        assert_eq!(delay(&file, &[], stream), refused(12, 0));
+        assert_eq!(delay(&file, &plan[..20], stream), refused(11, 13));
+        assert_eq!(delay(&file, &plan_file(181, &[(0, 35), (40, 6)]), stream), refused(13, 0));
+        assert_eq!(delay(&file, &plan_file(50, &[(0, 35), (40, 5)]), stream), refused(15, 2));
+        assert_eq!(delay(&much, &plan, stream), refused(16, 1));
+        assert_eq!(delay(&file, &plan_file(50, &[(0, 35), (39, 6)]), stream), refused(17, 1));
+    }
+    let kinds = [car(1, CAR), tram(2, false, 300, 10), walk(2, 70, 200, false), cyclist(2), car(2, CAR)];
+    let mut every = junction(&kinds, &[], &[count(1, 600), count(5, 600)]);
+    every.streams.push(with_island(kinds[2], 60, 20, 40));
+    let plan = plan_file(50, &[(0, 35), (0, 10), (0, 9), (0, 8), (7, 49), (0, 10)]);
+    for stream in [2, 3, 4, 6, 7, 256 + 1, 256 + 5] {
+        assert_eq!(delay(&every.to_file(), &plan, stream), refused(9, stream));
+    }
+    assert_eq!(delay(&every.to_file(), &plan, 1), Ok(Delay::Seconds(f64::from_bits(0x400ba3e6c2ee7cec))));
+    assert_eq!(delay(&every.to_file(), &plan, 5), Ok(Delay::NoRed));
+}
+
+/// A delay goes by the flow of the heading's period, and by no start.
+#[test]
+fn delay_by_flow_and_length() {
+    let counts = [count_in(1, 600, 1), count_in(1, 900, 2), Count { count_day: 9_001, ..count_in(1, 1_000, 1) }];
+    let seconds = |flow| Ok(Delay::Seconds(figures(35, 50, flow, 1925).d));
+    assert_eq!(delay(&in_period(1, &counts).to_file(), &bytes_of(WP), 1), seconds(600));
+    assert_eq!(delay(&in_period(2, &counts).to_file(), &bytes_of(WP), 1), seconds(900));
+    assert_eq!(delay(&in_period(3, &counts).to_file(), &bytes_of(WP), 1), refused(9, 1));
+    for by in 0..50 {
+        let plan = plan_file(50, &[(by, 35), ((by + 40) % 50, 6)]);
+        assert_eq!(delay(&bytes_of(WC), &plan, 1), seconds(600));
+    }
 }

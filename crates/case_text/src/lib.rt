@@ -248,6 +248,11 @@ pub fn put_bytes(bytes: &[u8]) {
     }
 }
 
+// Prints the 64 bits of a number in hexadecimal.
+pub fn put_bits(bits: u64) {
+    io::print_hex(STDOUT_FILENO, bits, 16);
+}
+
 fn put_byte(byte: u8) {
     io::print_hex(STDOUT_FILENO, byte as u64, 2);
 }

@@ -19,11 +19,27 @@ pub struct Got {
     pub size: usize,
 }
 
+// Whether two files were read, and how many bytes of each are in its lent buffer.
+pub struct GotTwo {
+    pub read: bool,
+    pub first: usize,
+    pub second: usize,
+}
+
 // Whether argument i is missing, or can be a file's name: it does not begin with a hyphen.
 pub fn is_name(i: usize) -> bool {
     let mut name = io::buffer();
     os::arg(i, &mut name);
     !(name[0] == b'-')
+}
+
+// Whether the arguments are two that can be files' names; else tells how the program is called.
+pub fn has_two_names(words: &[u8]) -> bool {
+    if (os::arg_count() == 3) & is_name(1) & is_name(2) {
+        return true;
+    }
+    usage(words);
+    false
 }
 
 // Tells how the program is called.
@@ -62,6 +78,27 @@ pub fn read_argument(program: &[u8], i: usize, file: &mut [u8]) -> Got
         };
     }
     read_file(&name[0..n], file)
+}
+
+// Reads the files that the first two arguments name, as far as each buffer goes.
+pub fn read_two(program: &[u8], first: &mut [u8], second: &mut [u8]) -> GotTwo
+    ensures first { λ r. ⌜ r .first ≤ length (now (first .exit)) ⌝ }
+    ensures second { λ r. ⌜ r .second ≤ length (now (second .exit)) ⌝ }
+{
+    let one = read_argument(program, 1, first);
+    if !one.read {
+        return GotTwo {
+            read: false,
+            first: 0,
+            second: 0,
+        };
+    }
+    let two = read_argument(program, 2, second);
+    GotTwo {
+        read: two.read,
+        first: one.size,
+        second: two.size,
+    }
 }
 
 fn read_file(path: &[u8], file: &mut [u8]) -> Got

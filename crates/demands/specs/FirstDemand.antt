@@ -2,7 +2,8 @@
 -- a result or one numbered refusal with its place, and a refusal alters no lent byte.
 --
 -- `reading`, `judgement`, `worked` and `buffer` are what `junction_file::read`, `plan_judge::judge` and `planner::work_out` are proved to answer and
--- to leave, with no `requires`, and to end; `judgeAnswer`, `planAnswer` and the like what the C library's functions are. Questions.antt has the
+-- to leave, with no `requires`, and to end; `delayVerdict` is the verdict in the answer of `delays::delay` (delays/specs/Answer.antt);
+-- `judgeAnswer`, `planAnswer` and the like what the C library's functions are. Questions.antt has the
 -- questions in document 01's order, Asked.antt what it is that a verdict `Answers` them, Places.antt the numbers that the paper lists for each
 -- entry, with their places.
 use Prim.Native.Nat.{ℕ, _≤_}
@@ -18,20 +19,23 @@ use Rattle.plan_file.specs.Plans.{planOf}
 use Rattle.plan_rules.specs.Rules.{needMet, capacityMet, zoneMet}
 use Rattle.plan_judge.specs.Judgement.{judgement}
 use Rattle.planner.specs.WorkingOut.{worked, buffer}
-use Rattle.givendra.specs.Answers.{judgeAnswer, planAnswer, junctionAnswer, intergreenAnswer, needAnswer, saturationAnswer, ratioAnswer}
+use Rattle.delays.specs.Answer.{delayVerdict}
+use Rattle.givendra.specs.Answers.{judgeAnswer, planAnswer, junctionAnswer, intergreenAnswer, needAnswer, saturationAnswer, ratioAnswer, delayAnswer}
 use Rattle.givendra.specs.LentList.{newestAnswer}
 use Rattle.givendra.specs.declared.CountRecord.{CountRecord}
 use Rattle.demands.specs.Asked.{Answers, AnswersBy}
-use Rattle.demands.specs.Places.{JunctionPlace, JudgePlace, WorkPlace, FigurePlace, ListPlace}
-use Rattle.demands.specs.Questions.{junctionAsked, judgeAsked, workAsked, intergreenAsked, needAsked, carAsked, listAsked, Formed, Every, FirstOf}
+use Rattle.demands.specs.Places.{JunctionPlace, JudgePlace, DelayPlace, WorkPlace, FigurePlace, ListPlace}
+use Rattle.demands.specs.Questions.{junctionAsked, judgeAsked, delayAsked, workAsked, intergreenAsked, needAsked, carAsked, listAsked, Formed, Every, FirstOf}
 use Rattle.demands.specs.lemmas.Answered.{read-answer, judge-answer, work-answer}
-use Rattle.demands.specs.lemmas.Entries.{answers, kept, c-read-holds, c-judge-holds, c-plan-holds, c-kept, intergreen-holds, need-holds, saturation-holds, ratio-holds, newest-holds}
+use Rattle.demands.specs.lemmas.Entries.{answers, kept, c-read-holds, c-judge-holds, delay-holds, c-plan-holds, c-kept, intergreen-holds, need-holds, saturation-holds, ratio-holds, newest-holds}
+use Rattle.demands.specs.lemmas.Library.{delay-answer, delay-told}
 use Rattle.demands.specs.lemmas.Rules.{need-refused, capacity-refused, zone-refused}
 use Rattle.demands.specs.lemmas.Told.{junction-told, judge-told, work-told}
 
 pub record FirstDemand : Type 0 where
   pub read : (junction : List ℕ) → Answers (reading junction .verdict) (junctionAsked junction) (JunctionPlace (length junction) (reading junction .junction .held .streams))
   pub judged : (junction plan : List ℕ) → Answers (judgement junction plan) (judgeAsked junction plan) (JudgePlace junction plan)
+  pub delayed : (junction plan : List ℕ) (n : ℕ) → Answers (delayVerdict junction plan n) (delayAsked junction plan n) (DelayPlace junction plan n)
   pub planned : (junction lent : List ℕ) → Answers (worked junction (length lent) .verdict) (workAsked junction (length lent)) (WorkPlace junction)
   -- 15, 16 and 17 in full: both files pass their questions, every earlier rule is met by every stream, the stream or zone of that place breaks
   -- its rule, and every lower one meets it
@@ -51,6 +55,8 @@ pub record FirstDemand : Type 0 where
       → AnswersBy (junctionAnswer junction .refusal) (junctionAnswer junction .place) (junctionAsked junction) (JunctionPlace (length junction) (reading junction .junction .held .streams))
   pub c-judged : (junction plan : List ℕ)
       → AnswersBy (judgeAnswer junction plan .refusal) (judgeAnswer junction plan .place) (judgeAsked junction plan) (JudgePlace junction plan)
+  pub c-delayed : (junction plan : List ℕ) (n : ℕ)
+      → AnswersBy (delayAnswer junction plan n .refusal) (delayAnswer junction plan n .place) (delayAsked junction plan n) (DelayPlace junction plan n)
   pub c-planned : (junction lent : List ℕ)
       → AnswersBy (planAnswer junction (length lent) .refusal) (planAnswer junction (length lent) .place) (workAsked junction (length lent)) (WorkPlace junction)
   pub c-unaltered : (junction lent : List ℕ) → 1 ≤ planAnswer junction (length lent) .refusal → buffer junction lent ≡ lent
@@ -72,6 +78,7 @@ first-demand =
     record {
       read = λ junction. answers _ _ _ (read-answer junction) (junction-told junction);
       judged = λ junction plan. answers _ _ _ (judge-answer junction plan) (judge-told junction plan);
+      delayed = λ junction plan n. answers _ _ _ (delay-answer junction plan n) (delay-told junction plan n);
       planned = λ junction lent. answers _ _ _ (work-answer junction (length lent)) (work-told junction (length lent));
       refused-15 = need-refused;
       refused-16 = capacity-refused;
@@ -79,6 +86,7 @@ first-demand =
       unaltered = λ junction lent number place e. kept junction lent (ap isRefused e);
       c-read = c-read-holds;
       c-judged = c-judge-holds;
+      c-delayed = delay-holds;
       c-planned = λ junction lent. c-plan-holds junction (length lent);
       c-unaltered = c-kept;
       intergreen = intergreen-holds;

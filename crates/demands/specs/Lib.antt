@@ -1,4 +1,5 @@
 pub mod Asked
+pub mod Delays
 pub mod Farther
 pub mod Figures
 pub mod Files

@@ -19,17 +19,21 @@ use Rattle.junction_description.specs.File.{JunctionFile}
 use Rattle.junction_description.specs.OtherPeriods.{OnlyOtherPeriods, SameButCounts, same-but-counts}
 use Rattle.junction_figures.specs.Figures.{streamFlow}
 use Rattle.plan_judge.specs.Judgement.{judgement}
+use Rattle.plan_file.specs.Plans.{planOf}
+use Rattle.delays.specs.Answer.{carAsked, delayVerdict, answer}
 use Rattle.planner.specs.WorkingOut.{worked, buffer}
-use Rattle.givendra.specs.Answers.{judgeAnswer, planAnswer, junctionAnswer, intergreenVerdict, intergreenAnswer, needVerdict, needAnswer, carVerdict, saturationAnswer, ratioAnswer}
-use Rattle.demands.specs.lemmas.Recounted.{recounted, flow-same, entry-same, need-same, saturation-same, ratio-same, judged-same, worked-same, buffer-same}
+use Rattle.givendra.specs.Answers.{judgeAnswer, planAnswer, junctionAnswer, intergreenVerdict, intergreenAnswer, needVerdict, needAnswer, carVerdict, saturationAnswer, ratioAnswer, delayAnswer}
+use Rattle.demands.specs.lemmas.Recounted.{recounted, flow-same, entry-same, need-same, saturation-same, ratio-same, judged-same, figures-same, worked-same, buffer-same}
 
 pub record SameAnswers (s t : List ℕ) : Type 0 where
   pub flows : (n : ℕ) → streamFlow (reading s .junction) n ≡ streamFlow (reading t .junction) n
   pub verdicts : (plan : List ℕ) → judgement s plan ≡ judgement t plan
   pub plans : (size : ℕ) → worked s size ≡ worked t size
   pub buffers : (lent : List ℕ) → buffer s lent ≡ buffer t lent
+  pub delays : (plan : List ℕ) (n : ℕ) → answer s plan n ≡ answer t plan n
   -- and from the C library
   pub c-verdicts : (plan : List ℕ) → judgeAnswer s plan ≡ judgeAnswer t plan
+  pub c-delays : (plan : List ℕ) (n : ℕ) → delayAnswer s plan n ≡ delayAnswer t plan n
   pub c-plans : (size : ℕ) → planAnswer s size ≡ planAnswer t size
   pub intergreens : (from to : ℕ) → intergreenAnswer s from to ≡ intergreenAnswer t from to
   pub needs : (n cycle : ℕ) → needAnswer s n cycle ≡ needAnswer t n cycle
@@ -52,15 +56,21 @@ module _ (s t : List ℕ) (one : reading s .verdict ≡ Passed) (two : reading t
     abbrev j : Junction
     j = reading s .junction
 
+    delay-same : (plan : List ℕ) (n : ℕ) → answer s plan n ≡ answer t plan n
+    unfolding answer delayVerdict carAsked judgement countRefers streamNumbered streamAt
+    delay-same plan n = rw (one, two, is, judged-same j last many counts same plan, figures-same j last many counts same (planOf plan) n)
+
     same-answers : SameAnswers s t
-    unfolding judgement worked buffer judgeAnswer planAnswer junctionAnswer intergreenAnswer intergreenVerdict needAnswer needVerdict saturationAnswer ratioAnswer carVerdict exists countRefers streamNumbered streamAt
+    unfolding judgement worked buffer judgeAnswer planAnswer delayAnswer junctionAnswer intergreenAnswer intergreenVerdict needAnswer needVerdict saturationAnswer ratioAnswer carVerdict exists countRefers streamNumbered streamAt
     same-answers =
         record {
           flows = λ n. rw is (sym (flow-same j last many counts same n));
           verdicts = λ plan. rw (one, two, is, judged-same j last many counts same plan);
           plans = λ size. rw (one, two, is, worked-same j last many counts same size);
           buffers = λ lent. rw (one, two, is, buffer-same j last many counts same lent);
+          delays = delay-same;
           c-verdicts = λ plan. rw (one, two, is, judged-same j last many counts same plan);
+          c-delays = λ plan n. rw (delay-same plan n);
           c-plans = λ size. rw (one, two, is, worked-same j last many counts same size);
           intergreens = λ from to. rw (one, two, is, entry-same j last many counts same from to);
           needs = λ n cycle. rw (one, two, is, need-same j last many counts same n cycle);

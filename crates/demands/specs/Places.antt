@@ -36,6 +36,11 @@ pub data JudgePlace (junction plan : List ℕ) : ℕ → ℕ → Type 0 where
   of-plan : {n p : ℕ} → PlanPlace (length plan) n p → JudgePlace junction plan n p
   of-rule : {n p : ℕ} → RulePlace (reading junction .junction .held .streams) (reading junction .junction .held .zones) n p → JudgePlace junction plan n p
 
+-- a delay's: the judge's, or 9 at the number asked for
+pub data DelayPlace (junction plan : List ℕ) (asked : ℕ) : ℕ → ℕ → Type 0 where
+  of-judge : {n p : ℕ} → JudgePlace junction plan n p → DelayPlace junction plan asked n p
+  no-car : DelayPlace junction plan asked 9 asked
+
 -- the planner's: a junction's, or the calculation's
 pub data WorkPlace (junction : List ℕ) : ℕ → ℕ → Type 0 where
   of-junction : {n p : ℕ} → JunctionPlace (length junction) (reading junction .junction .held .streams) n p → WorkPlace junction n p

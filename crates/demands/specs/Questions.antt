@@ -101,6 +101,10 @@ judgeAsked junction plan =
     let j = reading junction .junction in
     junctionAsked junction ++ (planAsked plan (j .held .streams) ++ rulesAsked j plan)
 
+-- a delay's: after the judge's, 9 with the number asked for, is it an existing car?
+abbrev pub delayAsked : List ℕ → List ℕ → ℕ → List Question
+delayAsked junction plan n = judgeAsked junction plan ++ (question 9 n (countRefers (reading junction .junction) n) ∷ [])
+
 abbrev pub workAsked : List ℕ → ℕ → List Question
 workAsked junction size = junctionAsked junction ++ calculationAsked (reading junction .junction) size
 

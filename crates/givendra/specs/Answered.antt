@@ -19,7 +19,12 @@ use Rattle.plan_judge.specs.Judgement.{judgement}
 use Rattle.plan_judge.specs.Numbers.{number-accepted}
 use Rattle.junction_figures.specs.Figures.{pairEntry, streamNeed, streamSaturation, streamRatio}
 use Rattle.givendra.specs.Answers.{figure, intergreenVerdict, needVerdict, carVerdict}
-use Rattle.givendra.specs.Answers.{judgeAnswer, intergreenAnswer, needAnswer, saturationAnswer, ratioAnswer}
+use Rattle.service_level.specs.Delays.{whole}
+use Rattle.delays.specs.Answer.{answer, refusal, toldOutcome, toldValue, toldLetter}
+use Rattle.delays.specs.Refused.{delay-refused}
+use Rattle.delays.specs.declared.Delayed.{Delayed}
+use Rattle.delays.specs.declared.Delayed.the-variants as delayed
+use Rattle.givendra.specs.Answers.{judgeAnswer, intergreenAnswer, needAnswer, saturationAnswer, ratioAnswer, delayAnswer}
 
 -- the plan is accepted exactly where the judge's refusal is 0
 pub judge-accepts : (junction plan : List ℕ) → (judgeAnswer junction plan .refusal ≡ 0) ↔ (judgement junction plan ≡ Passed)
@@ -110,3 +115,21 @@ module _ (junction : List ℕ) where
       ↔ ((reading junction .verdict ≡ Passed) × (countRefers (reading junction .junction) n ≡ true))
   unfolding ratioAnswer
   ratio-told n = car-told n (streamRatio (reading junction .junction) n)
+
+-- a delay is told exactly where the plan is accepted and the number is that of an existing car
+module _ (junction plan : List ℕ) (n : ℕ) where
+  pub delay-told : (delayAnswer junction plan n .refusal ≡ 0)
+      ↔ ((judgement junction plan ≡ Passed) × (countRefers (reading junction .junction) n ≡ true))
+  unfolding delayAnswer
+  delay-told = delay-refused junction plan n
+
+  nothing : (x : Delayed) → (refusal x ≡ 0 → ⊥) → (toldOutcome x ≡ 0) × (toldLetter x ≡ 0) × (toldValue x ≡ whole 0)
+  unfolding refusal toldOutcome toldLetter toldValue
+  nothing (delayed.Refused number place) some = (refl, refl, refl)
+  nothing (delayed.Told service level) some = absurd (some refl)
+
+  -- where something is refused, no outcome, no level and no value
+  pub delay-nothing : (delayAnswer junction plan n .refusal ≡ 0 → ⊥)
+      → (delayAnswer junction plan n .outcome ≡ 0) × (delayAnswer junction plan n .level ≡ 0) × (delayAnswer junction plan n .value ≡ whole 0)
+  unfolding delayAnswer
+  delay-nothing some = nothing (answer junction plan n) some

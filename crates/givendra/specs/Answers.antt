@@ -13,10 +13,15 @@ use Rattle.junction_figures.specs.Figures.{pairEntry, streamNeed, streamSaturat
 use Rattle.plan_file.specs.Plans.{cycleInRange}
 use Rattle.plan_judge.specs.Judgement.{judgement}
 use Rattle.planner.specs.WorkingOut.{worked}
+use Rattle.service_level.specs.Delays.{outcome, value, letter}
+use Rattle.service_level.specs.declared.Service.{Service}
+use Rattle.service_level.specs.declared.Level.{Level}
+use Rattle.delays.specs.Answer.{answer, refusal, refusedAt, toldOutcome, toldValue, toldLetter}
 use Rattle.givendra.specs.declared.JudgeAnswer.{JudgeAnswer}
 use Rattle.givendra.specs.declared.PlanAnswer.{PlanAnswer}
 use Rattle.givendra.specs.declared.JunctionAnswer.{JunctionAnswer}
 use Rattle.givendra.specs.declared.Figure.{Figure}
+use Rattle.givendra.specs.declared.DelayAnswer.{DelayAnswer}
 
 -- the release: GIVENDRA_RELEASE of include/givendra.h
 abbrev pub release : ℕ
@@ -93,3 +98,18 @@ unfoldable pub ratioAnswer : List ℕ → ℕ → Figure
 ratioAnswer junction n =
     figure (firstRefusal (reading junction .verdict) (carVerdict (reading junction .junction) n))
     (streamRatio (reading junction .junction) n)
+
+-- what is told of a car stream in a plan (document 02, 2026-05)
+abbrev pub toldAnswer : Service → Level → DelayAnswer
+toldAnswer s l = record { place = 0; refusal = 0; outcome = outcome s; level = letter l; value = value s }
+
+-- the delay of a stream: the refusal's number and place, the number and the value of what is told, and the level's letter
+unfoldable pub delayAnswer : List ℕ → List ℕ → ℕ → DelayAnswer
+delayAnswer junction plan n =
+    record {
+      place = refusedAt (answer junction plan n);
+      refusal = refusal (answer junction plan n);
+      outcome = toldOutcome (answer junction plan n);
+      level = toldLetter (answer junction plan n);
+      value = toldValue (answer junction plan n);
+    }

@@ -5,7 +5,8 @@ use mathlib.Core.Path.{_≡_}
 use Rattle.junction_file.specs.FileDays.{OnlyFileDays, file-days-without-effect}
 use Rattle.plan_judge.specs.FileDays.{file-days-unjudged}
 use Rattle.planner.specs.Demand2.{file-days-unplanned}
-use Rattle.givendra.specs.Answers.{judgeAnswer, planAnswer, junctionAnswer, intergreenAnswer, needAnswer, saturationAnswer, ratioAnswer}
+use Rattle.delays.specs.FileDays.{file-days-undelayed}
+use Rattle.givendra.specs.Answers.{judgeAnswer, planAnswer, junctionAnswer, intergreenAnswer, needAnswer, saturationAnswer, ratioAnswer, delayAnswer}
 
 -- of two junction files that differ only in file days
 module _ (s t : List ℕ) (only : OnlyFileDays s t) where
@@ -36,3 +37,7 @@ module _ (s t : List ℕ) (only : OnlyFileDays s t) where
   pub ratio-same : (n : ℕ) → ratioAnswer s n ≡ ratioAnswer t n
   unfolding ratioAnswer
   ratio-same n = rw (file-days-without-effect s t only)
+
+  pub delay-same : (plan : List ℕ) (n : ℕ) → delayAnswer s plan n ≡ delayAnswer t plan n
+  unfolding delayAnswer
+  delay-same plan n = rw (file-days-undelayed s t only plan n)

@@ -5,12 +5,16 @@ ghost use Prim.Native.Nat.{max};
 ghost use lib.ListN.{length};
 ghost use Rattle.planner.specs.WorkingOut.{buffer as bufferAfter};
 ghost use Rattle.givendra.specs.Answers.{release, judgeAnswer, planAnswer, junctionAnswer, figure as figureOf, intergreenVerdict, intergreenAnswer, needVerdict, needAnswer, carVerdict, saturationAnswer, ratioAnswer};
+ghost use Rattle.givendra.specs.Answers.{toldAnswer, delayAnswer};
 ghost use Rattle.givendra.specs.LentList.{wanted, recordRank, newestAnswer, newestFigure};
 use counts::Count;
 use counts::Wanted;
+use delays::Delayed;
 use fields::Verdict;
 use fields::ask;
 use junction::Junction;
+use service_level::Level;
+use service_level::Service;
 
 // A judge's answer.
 #[repr(C)]
@@ -47,6 +51,16 @@ pub struct Figure {
     pub place: usize,
     pub refusal: u8,
     pub value: u32,
+}
+
+// What is told of a car stream in a plan: 1 a delay in seconds, 2 a saturation of 1 or more, 3 no red, with value 0; and the level's letter.
+#[repr(C)]
+pub struct DelayAnswer {
+    pub place: usize,
+    pub refusal: u8,
+    pub outcome: u8,
+    pub level: u8,
+    pub value: f64,
 }
 
 // The release, by which a caller sees that header and archive belong together.
@@ -231,6 +245,53 @@ fn car_verdict(j: Junction, stream: usize) -> Verdict
         stream,
         Verdict::Passed,
     )
+}
+
+// The delay and the level of service of a car stream in a plan.
+#[no_mangle]
+pub extern "C" fn givendra_delay(junction: &[u8], plan: &[u8], stream: usize) -> DelayAnswer
+    ensures { λ r. ⌜ r ≡ delayAnswer (now (junction .entry)) (now (plan .entry)) stream ⌝ }
+{
+    let answer = delays::delay(junction, plan, stream);
+    match answer {
+        Delayed::Refused { number, place } => DelayAnswer {
+            place,
+            refusal: number,
+            outcome: 0,
+            level: 0,
+            value: 0.0,
+        },
+        Delayed::Told { service, level } => told_answer(service, level),
+    }
+}
+
+fn told_answer(service: Service, level: Level) -> DelayAnswer
+    ensures { λ r. ⌜ r ≡ toldAnswer service level ⌝ }
+{
+    let letter = service_level::letter(level);
+    match service {
+        Service::Delay(d) => DelayAnswer {
+            place: 0,
+            refusal: 0,
+            outcome: 1,
+            level: letter,
+            value: d,
+        },
+        Service::Oversaturated(u) => DelayAnswer {
+            place: 0,
+            refusal: 0,
+            outcome: 2,
+            level: letter,
+            value: u,
+        },
+        Service::NoRed => DelayAnswer {
+            place: 0,
+            refusal: 0,
+            outcome: 3,
+            level: letter,
+            value: 0.0,
+        },
+    }
 }
 
 // A count record of a lent list.

@@ -5,28 +5,21 @@ use console::PLAN_ROOM;
 use fields::Verdict;
 
 fn main() {
-    if !((os::arg_count() == 3) & console::is_name(1) & console::is_name(2)) {
-        console::usage(b"judge JUNCTION-FILE PLAN-FILE");
-        return;
+    if console::has_two_names(b"judge JUNCTION-FILE PLAN-FILE") {
+        let mut junction = [0; JUNCTION_ROOM];
+        let mut plan = [0; PLAN_ROOM];
+        judge_files(&mut junction, &mut plan);
     }
-    let mut junction = [0; JUNCTION_ROOM];
-    let mut plan = [0; PLAN_ROOM];
-    judge_files(&mut junction, &mut plan);
 }
 
 // The lent buffers take the two files.
 fn judge_files(junction: &mut [u8], plan: &mut [u8]) {
-    let first = console::read_argument(b"judge", 1, junction);
-    if !first.read {
-        return;
+    let got = console::read_two(b"judge", junction, plan);
+    if got.read {
+        let m = got.first;
+        let n = got.second;
+        answer(plan_judge::judge(&junction[0..m], &plan[0..n]));
     }
-    let second = console::read_argument(b"judge", 2, plan);
-    if !second.read {
-        return;
-    }
-    let m = first.size;
-    let n = second.size;
-    answer(plan_judge::judge(&junction[0..m], &plan[0..n]));
 }
 
 fn answer(verdict: Verdict) {

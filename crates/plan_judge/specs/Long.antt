@@ -24,7 +24,7 @@ unfoldable pub enoughJunction : ℕ
 enoughJunction = 16385
 
 -- a longer junction file is refused 1 at 0, read whole or not
-junction-read : (s : List ℕ) → reading (take enoughJunction s) ≡ reading s
+pub junction-read : (s : List ℕ) → reading (take enoughJunction s) ≡ reading s
 unfolding enoughJunction reading
 junction-read s =
     by-test (leb (length s) mostBytes)

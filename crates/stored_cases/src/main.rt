@@ -4,6 +4,8 @@
 //
 //     read LABEL: BYTES         a junction file: `taken` with the numbers of streams, zones and counts, or `refused`, number and place
 //     judge LABEL: BYTES        a plan file for the last junction file given: `accepted`, or `refused`, number and place
+//     delay LABEL: STREAM BYTES a stream's number and a plan file for the last junction file given: `delay` or `saturation` with the value's 64
+//                               bits, or `no red`, and the level of service; or `refused`, number and place
 //     plan LABEL: SIZE BYTES    a lent buffer's size and a junction file: the cycle, the lengths tried and the plan file's bytes, or `refused`,
 //                               number and place; then `kept` where every other byte, in the buffer and behind it, is what it was before
 //     junction: BYTES           gives the junction file for the plan files after it, and prints nothing
@@ -14,13 +16,19 @@ ghost use Prim.Native.Nat.{_≤_};
 ghost use lib.ListN.{length};
 use case_text::put;
 use case_text::put_number;
+use delays::Delayed;
 use fields::Verdict;
 use junction::Held;
 use libc::STDIN_FILENO;
 use planner::Worked;
+use service_level::Level;
+use service_level::Service;
 
 // What every byte of a lent buffer is before.
 const BEFORE: u8 = 0xa5;
+
+// The greatest number that a case gives.
+const MOST_NUMBER: usize = 9999999;
 
 // What is told of a junction file.
 struct Report {
@@ -74,8 +82,8 @@ fn answer(line: &[u8], junction: &[u8]) {
     if case_text::begins(line, b"read ") {
         return read(line);
     }
-    if case_text::begins(line, b"judge ") {
-        return judge(junction, line);
+    if case_text::begins(line, b"judge ") | case_text::begins(line, b"delay ") {
+        return plan_case(junction, line);
     }
     if case_text::begins(line, b"plan ") {
         return plan(line);
@@ -88,12 +96,16 @@ fn passed(verdict: Verdict) -> bool {
     match verdict {
         Verdict::Passed => true,
         Verdict::Refused { number, place } => {
-            put(b" refused");
-            put_number(number as usize);
-            put_number(place);
+            tell_refusal(number, place);
             false
         }
     }
+}
+
+fn tell_refusal(number: u8, place: usize) {
+    put(b" refused");
+    put_number(number as usize);
+    put_number(place);
 }
 
 fn read(line: &[u8]) {
@@ -119,18 +131,63 @@ fn tell_report(report: Report) {
     }
 }
 
-fn judge(junction_line: &[u8], line: &[u8]) {
+// A case of a plan file, for the junction file of its line.
+fn plan_case(junction_line: &[u8], line: &[u8]) {
     let mut junction = case_text::file();
     let size = case_text::fill(junction_line, &mut junction);
-    judge_for(&junction[0..size], line);
+    if case_text::begins(line, b"judge ") {
+        judge(&junction[0..size], line);
+    } else {
+        delay(&junction[0..size], line);
+    }
 }
 
-fn judge_for(junction: &[u8], line: &[u8]) {
+fn judge(junction: &[u8], line: &[u8]) {
     let mut plan = case_text::file();
     let size = case_text::fill(line, &mut plan);
     if passed(plan_judge::judge(junction, &plan[0..size])) {
         put(b" accepted");
     }
+}
+
+fn delay(junction: &[u8], line: &[u8]) {
+    let mut plan = case_text::file();
+    let size = case_text::fill_after_number(line, &mut plan);
+    tell_delayed(delays::delay(
+        junction,
+        &plan[0..size],
+        case_text::number(line, MOST_NUMBER),
+    ));
+}
+
+fn tell_delayed(answer: Delayed) {
+    match answer {
+        Delayed::Refused { number, place } => tell_refusal(number, place),
+        Delayed::Told { service, level } => tell_told(service, level),
+    }
+}
+
+fn tell_told(service: Service, level: Level) {
+    match service {
+        Service::Delay(d) => tell_value(b" delay ", d),
+        Service::Oversaturated(u) => tell_value(b" saturation ", u),
+        Service::NoRed => put(b" no red"),
+    }
+    put(b" ");
+    put(&[service_level::letter(level)]);
+}
+
+fn tell_value(word: &[u8], x: f64) {
+    put(word);
+    case_text::put_bits(bits(x));
+}
+
+// The bits of a number that is not below 0; 0 for any other, which no answer has.
+fn bits(x: f64) -> u64 {
+    if x >= 0.0 {
+        return f64::to_bits(x);
+    }
+    0
 }
 
 fn plan(line: &[u8]) {

@@ -2,6 +2,7 @@
 use Prim.Native.Nat.{ℕ}
 use mathlib.Core.List.{List, [], _∷_, _++_}
 use mathlib.Core.Path.{_≡_, refl}
+use lib.Ieee.{binary64, toBits}
 use lib.ListN.{replicate}
 use Rattle.laws.specs.Filled.{filled}
 use Rattle.laws.specs.Largest.{largestOf}
@@ -16,7 +17,7 @@ use Rattle.junction_questions.specs.Questions.{inOrder, lengthRight, inRange, w
 use Rattle.junction_places.specs.Places.{streamAt, countAt, zoneAt, streamNumbered, zoneNumbered}
 use Rattle.junction_questions.specs.Questions.{zoneRefers, carRefers, refers, bodyVerdict, fieldVerdict, inPhase, firstInPhase, phaseUsed, phaseFollows, phasesRight, carAt}
 use Rattle.junction_places.specs.Places.{numbered, exists}
-use Rattle.junction_questions.specs.Questions.{firstCar, lacksCount, firstLacking, countsVerdict, whole, wholeVerdict}
+use Rattle.junction_questions.specs.Questions.{countRefers, firstCar, lacksCount, firstLacking, countsVerdict, whole, wholeVerdict}
 use Rattle.junction_places.specs.Ranks.{rankAt, newestRank}
 use Rattle.junction_file.specs.Reading.{withHeading, withStream, withZone, withCount, withField, afterField, readField, atEnd, readFrom, reading}
 use Rattle.junction_figures.specs.Figures.{forward, backward, zoneEntry, pairEntry, streamNeed, streamFlow, streamSaturation, streamRatio}
@@ -28,7 +29,9 @@ use Rattle.phase_lengths.specs.Phases.{lostTime}
 use Rattle.junction_phases.specs.JunctionPhases.{isIn, carIn, hasCars, phaseRatio, phaseNeed, phaseCount, hasPedestrianOrTram, nextPhase, entryBetween, phaseEntry, intergreen, phaseAt, phasesAt}
 use Rattle.cycle_search.specs.Planning.{ratios, firstTried, phaseGreen, planAt, outcome, works, cycleFrom, cycle, found}
 use Rattle.planner.specs.WorkingOut.{calculation, junctionVerdict, junctionWorked, junctionBuffer, worked, buffer}
-use Rattle.worked_values.specs.Computed.{toTimes, toFlows, toPhases}
+use Rattle.delays.specs.Answer.{carAsked, streamFigures, told, unless, delayVerdict, answer, refusal, refusedAt, toldOutcome, toldValue, toldLetter}
+use Rattle.delays.specs.declared.Delayed.the-variants as delayed
+use Rattle.worked_values.specs.Computed.{toTimes, toFlows, toPhases, toDelays}
 use Rattle.whole_case.specs.Fields.{headingFor, heading, car, pedestrian, island, stopTram, zoneBy, zone, countFor, count, cycle11, green12}
 
 -- WC: the junction file with design day 9,000, the car, the pedestrian, their zone, and 600 E/h counted on the design day, all in period 1
@@ -107,6 +110,35 @@ accepted = refl
 too-early : judgement WC (planFrom 39) ≡ Refused 17 1
 unfolding toJudge
 too-early = refl
+
+-- its car waits 3.455 s (document 02, 2026-05), by the value's 64 bits, at level A; the pedestrian, and a stream that is not there, get 9
+unfoldable pub toDelay : Unit {0}
+unfolding toJudge toDelays countRefers carAsked streamFigures told unless delayVerdict answer refusal refusedAt toldOutcome toldValue toldLetter
+toDelay = tt
+
+delay-outcome : toldOutcome (answer WC WP 1) ≡ 1
+unfolding toDelay
+delay-outcome = refl
+
+delay-value : toBits binary64 (toldValue (answer WC WP 1)) ≡ 0x400b_a3e6_c2ee_7cec
+unfolding toDelay
+delay-value = refl
+
+delay-letter : toldLetter (answer WC WP 1) ≡ 65
+unfolding toDelay
+delay-letter = refl
+
+delay-of-no-car : answer WC WP 2 ≡ delayed.Refused 9 2
+unfolding toDelay
+delay-of-no-car = refl
+
+delay-of-no-stream : answer WC WP 257 ≡ delayed.Refused 9 257
+unfolding toDelay
+delay-of-no-stream = refl
+
+delay-too-early : answer WC (planFrom 39) 257 ≡ delayed.Refused 17 1
+unfolding toDelay
+delay-too-early = refl
 
 unfoldable pub toPlan : Unit {0}
 unfolding toJudge toPhases cycleField greenField greenFields planFile planSize hasRoom written

@@ -4,8 +4,8 @@ use givendra_sys::*;
 use model::cases::text_of;
 use model::junction::Count;
 use model::random::Random;
-use model::Refusal;
-use std::fmt::Debug;
+use model::{Delay, Refusal};
+use std::fmt::{Debug, Formatter};
 
 // ---- lent memory
 
@@ -86,6 +86,12 @@ pub fn judge(junction: &Lent, plan: &Lent) -> JudgeAnswer {
     answer
 }
 
+pub fn delay(junction: &Lent, plan: &Lent, stream: usize) -> DelayBits {
+    let answer = unsafe { givendra_delay(junction.pointer(), junction.length(), plan.pointer(), plan.length(), stream) };
+    assert_lent("delay", &[junction, plan]);
+    DelayBits::of(answer)
+}
+
 pub fn work_out(junction: &Lent, buffer: &mut Lent) -> PlanAnswer {
     let (pointer, length) = (buffer.pointer_to_write(), buffer.length());
     let answer = unsafe { givendra_work_out(junction.pointer(), junction.length(), pointer, length) };
@@ -143,6 +149,42 @@ fn assert_lent(entry: &str, files: &[&Lent]) {
 pub fn judged(answer: Result<(), Refusal>) -> JudgeAnswer {
     let (refusal, place) = number_and_place(&answer);
     JudgeAnswer { place, refusal }
+}
+
+/// The answer about a delay; two of these are equal where every bit of the value is.
+#[derive(Clone, Copy, PartialEq, Eq)]
+pub struct DelayBits {
+    pub place: usize,
+    pub refusal: u8,
+    pub outcome: u8,
+    pub level: u8,
+    pub bits: u64,
+}
+
+impl DelayBits {
+    fn of(answer: DelayAnswer) -> DelayBits {
+        let DelayAnswer { place, refusal, outcome, level, value } = answer;
+        DelayBits { place, refusal, outcome, level, bits: value.to_bits() }
+    }
+}
+
+/// The value as in the stored cases.
+impl Debug for DelayBits {
+    fn fmt(&self, f: &mut Formatter) -> std::fmt::Result {
+        let DelayBits { place, refusal, outcome, level, bits } = *self;
+        write!(f, "refusal {refusal} {place}, outcome {outcome}, level {:?}, value {bits:016x}", level as char)
+    }
+}
+
+pub fn delayed(answer: Result<Delay, Refusal>) -> DelayBits {
+    let (refusal, place) = number_and_place(&answer);
+    let (outcome, level, value) = match answer {
+        Ok(d @ Delay::Seconds(value)) => (1, d.level() as u8, value),
+        Ok(d @ Delay::Oversaturated(value)) => (2, d.level() as u8, value),
+        Ok(d @ Delay::NoRed) => (3, d.level() as u8, 0.0),
+        Err(_) => (0, 0, 0.0),
+    };
+    DelayBits::of(DelayAnswer { place, refusal, outcome, level, value })
 }
 
 pub fn figure(answer: Result<u32, Refusal>) -> Figure {

@@ -15,14 +15,18 @@ use Rattle.counts.specs.declared.Wanted.{Wanted}
 use Rattle.junction_file.specs.Reading.{reading}
 use Rattle.planner.specs.lemmas.Cases.{file-taken, lent-refused, lent-taken, buffer-refused, worked-verdict}
 use Rattle.planner.specs.WorkingOut.{worked, buffer}
-use Rattle.givendra.specs.Answers.{judgeAnswer, planAnswer, junctionAnswer, figure, intergreenAnswer, needAnswer, saturationAnswer, ratioAnswer}
+use Rattle.plan_file.specs.Plans.{planOf}
+use Rattle.delays.specs.Answer.{streamFigures, delayVerdict, answer as delayed}
+use Rattle.delays.specs.Refused.{unless-number}
+use Rattle.givendra.specs.Answers.{judgeAnswer, planAnswer, junctionAnswer, figure, intergreenAnswer, needAnswer, saturationAnswer, ratioAnswer, delayAnswer}
 use Rattle.givendra.specs.LentList.{newestAnswer, newestFigure}
 use Rattle.givendra.specs.declared.CountRecord.{CountRecord}
 use Rattle.demands.specs.Asked.{Question, answer, answer-refused, answer-passed, Answers, AnswersBy}
-use Rattle.demands.specs.Places.{JunctionPlace, JudgePlace, WorkPlace, FigurePlace, ListPlace}
-use Rattle.demands.specs.Questions.{junctionAsked, judgeAsked, workAsked, intergreenAsked, needAsked, carAsked, listAsked}
+use Rattle.demands.specs.Places.{JunctionPlace, JudgePlace, DelayPlace, WorkPlace, FigurePlace, ListPlace}
+use Rattle.demands.specs.Questions.{junctionAsked, judgeAsked, delayAsked, workAsked, intergreenAsked, needAsked, carAsked, listAsked}
 use Rattle.demands.specs.lemmas.Answered.{read-answer, judge-answer, work-answer}
-use Rattle.demands.specs.lemmas.Library.{said-is, junction-some, judge-some, work-some, figure-some, list-some, intergreen-answer, need-answer, car-answer, list-answer, intergreen-told, need-told, car-told, list-told}
+use Rattle.demands.specs.lemmas.Library.{said-is, junction-some, judge-some, delay-some, work-some, figure-some, list-some}
+use Rattle.demands.specs.lemmas.Library.{delay-answer, delay-told, intergreen-answer, need-answer, car-answer, list-answer, intergreen-told, need-told, car-told, list-told}
 use Rattle.demands.specs.lemmas.Told.{Told, told-more, junction-told, judge-told, work-told}
 
 pub answers : (v : Verdict) (asked : List Question) (Listed : ℕ → ℕ → Type 0) → v ≡ answer asked → Told Listed v → Answers v asked Listed
@@ -49,6 +53,14 @@ kept junction lent e =
 numbered-refused : (v : Verdict) → 1 ≤ numberOf v → isRefused v ≡ true
 numbered-refused Passed some = absurd (omega arith)
 numbered-refused (Refused number place) some = refl
+
+pub delay-holds : (junction plan : List ℕ) (n : ℕ)
+    → AnswersBy (delayAnswer junction plan n .refusal) (delayAnswer junction plan n .place) (delayAsked junction plan n) (DelayPlace junction plan n)
+unfolding delayAnswer delayed
+delay-holds junction plan n =
+    let v = delayVerdict junction plan n in
+    let is = unless-number v (streamFigures (reading junction .junction) (planOf plan) n) in
+    rw (is .0, is .1) (answers-by v _ _ delay-some (delay-answer junction plan n) (delay-told junction plan n))
 
 module _ (junction : List ℕ) where
   pub c-read-holds : AnswersBy (junctionAnswer junction .refusal) (junctionAnswer junction .place) (junctionAsked junction) (JunctionPlace (length junction) (reading junction .junction .held .streams))

@@ -1,7 +1,7 @@
 -- The C library's answers are the answers to their questions too, and a refusal's number is never 0.
 use Prim.Native.Nat.{ℕ, zero, suc, _≤_}
 use native.Mathlib.Omega.{arith}
-use mathlib.Core.List.{List, _++_}
+use mathlib.Core.List.{List, [], _∷_, _++_}
 use mathlib.Core.Logic.{_⊎_, inl, inr}
 use mathlib.Core.Path.{_≡_, refl, sym, _∙_}
 use lib.Dec.{leb}
@@ -13,16 +13,18 @@ use Rattle.junction_questions.specs.Questions.{countRefers}
 use Rattle.junction_places.specs.Places.{exists}
 use Rattle.junction_file.specs.Reading.{reading}
 use Rattle.plan_file.specs.Plans.{cycleInRange}
+use Rattle.plan_judge.specs.Judgement.{judgement}
+use Rattle.delays.specs.Answer.{carAsked as delayCar, delayVerdict}
 use Rattle.givendra.specs.Answers.{intergreenVerdict, needVerdict, carVerdict}
 use Rattle.givendra.specs.LentList.{listRank}
 use Rattle.givendra.specs.declared.CountRecord.{CountRecord}
-use Rattle.demands.specs.Asked.{Question, answer, answer-append, said}
+use Rattle.demands.specs.Asked.{Question, question, answer, answer-append, said}
 use Rattle.demands.specs.Places.{JunctionPlace, long, field, file, count, PlanPlace, fit, expected, range, RulePlace, need, capacity, zone}
 use Rattle.demands.specs.Places.{CalculationPlace, ratios-sum, no-cycle, no-room, JudgePlace, WorkPlace, FigurePlace, ListPlace}
-use Rattle.demands.specs.Places.{of-junction, of-plan, of-rule, of-calculation, of-stream, of-cycle, none-usable}
-use Rattle.demands.specs.Questions.{junctionAsked, intergreenAsked, needAsked, carAsked, listAsked}
-use Rattle.demands.specs.lemmas.Answered.{read-answer}
-use Rattle.demands.specs.lemmas.Told.{Told, ask-told, first-told, told-more, junction-told}
+use Rattle.demands.specs.Places.{of-junction, of-plan, of-rule, of-calculation, of-stream, of-cycle, none-usable, DelayPlace, of-judge, no-car}
+use Rattle.demands.specs.Questions.{junctionAsked, judgeAsked, delayAsked, intergreenAsked, needAsked, carAsked, listAsked}
+use Rattle.demands.specs.lemmas.Answered.{read-answer, judge-answer}
+use Rattle.demands.specs.lemmas.Told.{Told, ask-told, first-told, told-more, junction-told, judge-told}
 
 -- where a refusal's number is not 0, the number and the place of a verdict say the verdict
 pub said-is : (v : Verdict) → Told (λ number place. 1 ≤ number) v → said (numberOf v) (placeOf v) ≡ v
@@ -56,6 +58,10 @@ pub judge-some : {junction plan : List ℕ} (n p : ℕ) → JudgePlace junction 
 judge-some n p (of-junction w) = junction-some n p w
 judge-some n p (of-plan w) = plan-some n p w
 judge-some n p (of-rule w) = rule-some n p w
+
+pub delay-some : {junction plan : List ℕ} {asked : ℕ} (n p : ℕ) → DelayPlace junction plan asked n p → 1 ≤ n
+delay-some n p (of-judge w) = judge-some n p w
+delay-some n p no-car = omega arith
 
 pub work-some : {junction : List ℕ} (n p : ℕ) → WorkPlace junction n p → 1 ≤ n
 work-some n p (of-junction w) = junction-some n p w
@@ -116,6 +122,20 @@ module _ (junction : List ℕ) where
     car-told =
         let R = FigurePlace junction (λ p. p ≡ n) ⊥ in
         own-told _ _ _ (ask-told R (countRefers (reading junction .junction) n) 7 n Passed (λ e. of-stream refl) (λ e. tt))
+
+module _ (junction plan : List ℕ) (n : ℕ) where
+  pub delay-answer : delayVerdict junction plan n ≡ answer (delayAsked junction plan n)
+  unfolding delayVerdict
+  delay-answer =
+      let last : answer (question 9 n (countRefers (reading junction .junction) n) ∷ []) ≡ delayCar (reading junction .junction) n = unfold answer delayCar in refl in
+      sym (answer-append (judgeAsked junction plan) _ ∙ rw (← judge-answer junction plan, last))
+
+  pub delay-told : Told (DelayPlace junction plan n) (delayVerdict junction plan n)
+  unfolding delayVerdict delayCar
+  delay-told =
+      let R = DelayPlace junction plan n in
+      first-told R (judgement junction plan) _ (told-more _ R (λ number place. of-judge) (judgement junction plan) (judge-told junction plan))
+      (λ e. ask-told R (countRefers (reading junction .junction) n) 9 n Passed (λ f. no-car) (λ f. tt))
 
 module _ (list : List CountRecord) (w : Wanted) where
   pub list-answer : ask (leb 1 (listRank w list)) 9 (w .stream) Passed ≡ answer (listAsked list w)

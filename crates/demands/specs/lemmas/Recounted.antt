@@ -23,6 +23,7 @@ use Rattle.plan_file.specs.declared.Plan.{Plan}
 use Rattle.plan_file.specs.Plans.{planOf}
 use Rattle.plan_rules.specs.Rules.{needMet, capacityMet, zoneMet, rulesVerdict}
 use Rattle.plan_judge.specs.Judgement.{planJudgement}
+use Rattle.delays.specs.Answer.{streamFigures}
 use Rattle.cycle_search.specs.Planning.{ratios, firstTried, planAt, outcome, works, cycleFrom, cycle, found}
 use Rattle.planner.specs.WorkingOut.{junctionVerdict, junctionWorked, junctionBuffer}
 
@@ -76,6 +77,10 @@ module _ (j : Junction) (last many : ℕ) (counts : List Count) (same : (n : ℕ
   pub judged-same : (plan : List ℕ) → planJudgement k plan ≡ planJudgement j plan
   unfolding planJudgement
   judged-same plan = rw (rules-same (planOf plan))
+
+  pub figures-same : (p : Plan) (n : ℕ) → streamFigures k p n ≡ streamFigures j p n
+  unfolding streamFigures
+  figures-same p n = rw (flow-same n, saturation-same n)
 
   -- the phases
   phase-ratio-same : (f : ℕ) → phaseRatio k f ≡ phaseRatio j f

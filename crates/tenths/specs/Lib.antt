@@ -1,0 +1,4 @@
+pub mod Literals
+pub mod Printed
+pub mod Tenths
+pub mod lemmas
