@@ -1,13 +1,14 @@
-/* Traffic-signal timing by the annex of Ordinance RD-02-21-2: judge a plan, work out a plan, and ask for the annex's figures and for delays.
+/* Traffic-signal timing by the annex of Ordinance RD-02-21-2: judge a plan, work out a plan, shift a plan, and ask for the annex's figures and for
+ * delays.
  *
  * For x86-64 Linux. `rt staticlib givendra` makes the archive target/staticlib/libgivendra.a; `tools/install PREFIX` installs header, archive and
  * shared library, so that `pkg-config --cflags --libs givendra` says how to compile and link.
  *
  * Nothing is allocated, and nothing is kept between calls: any number of threads may call at once. A call takes less than GIVENDRA_STACK bytes
- * of stack. A function reads the bytes that it is lent and writes only into givendra_work_out's buffer. Files and lists may hold anything. What
- * is lent must be readable for its whole length, the buffer writable too; a pointer may be NULL where its length is 0. Files and the buffer
- * may stand at any address; a list stands at an even one, as its struct asks. The buffer does not overlap the junction file, and nothing else
- * writes lent memory during a call.
+ * of stack. A function reads the bytes that it is lent and writes only into givendra_work_out's buffer and into givendra_shift's plan file. Files
+ * and lists may hold anything. What is lent must be readable for its whole length, that buffer and that plan file writable too; a pointer may be
+ * NULL where its length is 0. Files and the buffer may stand at any address; a list stands at an even one, as its struct asks. Neither that buffer
+ * nor that plan file overlaps the junction file. During a call nothing else reads or writes them, and nothing else writes other lent memory.
  *
  * Every answer but givendra_release's has a refusal's number and its place. Number 0: nothing is refused, and the place is 0. Any other
  * number: every other member is 0, givendra_refusal_text (below) says what is wrong, and the place says where. Unless a function says another
@@ -18,7 +19,7 @@
  *   11 to 13  an offset in the plan file: where the field is due, or, of 12, where the file should end
  *   15, 16    the stream
  *   17        the conflict zone, from 1
- *   21 to 23  0
+ *   21 to 24  0
  *
  * A plan file is fields one after another, first the cycle, then a green for each stream of the junction, in the order of the streams. Numbers
  * of two bytes have the high byte first:
@@ -46,6 +47,7 @@ uint32_t givendra_release(void);
 /* More bytes of stack than any call takes. */
 #define GIVENDRA_STACK 32768
 
+/* The answer of givendra_judge and of givendra_shift. */
 struct givendra_judge_answer {
     size_t place;
     uint8_t refusal;
@@ -103,6 +105,12 @@ struct givendra_judge_answer givendra_judge(const uint8_t *junction, size_t junc
 /* Works out a plan for a junction file and writes its plan file into the buffer, from the first byte. Later bytes are untouched; a refusal
  * alters no byte. The junction's questions come first, then 21, 22 and 23. */
 struct givendra_plan_answer givendra_work_out(const uint8_t *junction, size_t junction_length, uint8_t *buffer, size_t buffer_length);
+
+/* Adds an offset in s to every start of a plan file, modulo the plan's cycle, in the lent file itself: the two bytes of each start are written, and
+ * no other; a refusal alters no byte. plan_length is the file's own length, as givendra_work_out answers it in size: bytes behind the file are 12. The
+ * junction's questions come first, then 11 to 13, then 24, where the offset is not below the cycle. The plan need not be accepted: givendra_judge
+ * answers the same before and after, refusal and place. */
+struct givendra_judge_answer givendra_shift(const uint8_t *junction, size_t junction_length, uint8_t *plan, size_t plan_length, size_t offset);
 
 /* Reads a junction file: its design day, the period that it plans, and how many streams, zones and counts, of all periods, it has. */
 struct givendra_junction_answer givendra_read_junction(const uint8_t *junction, size_t junction_length);
@@ -164,6 +172,7 @@ static inline const char *givendra_refusal_text(unsigned number)
     case 21: return "the phases' flow ratios, each rounded up, sum to 1 or more";
     case 22: return "no cycle length from the annex's optimum to 180 s works";
     case 23: return "the buffer is too short";
+    case 24: return "the offset is not below the cycle";
     default: return "unknown refusal";
     }
 }

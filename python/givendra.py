@@ -39,6 +39,7 @@ _TEXTS = {
     21: "the phases' flow ratios, each rounded up, sum to 1 or more",
     22: "no cycle length from the annex's optimum to 180 s works",
     23: "the buffer is too short",
+    24: "the offset is not below the cycle",
 }
 
 
@@ -113,10 +114,12 @@ class _CountRecord(ctypes.Structure):
 
 
 _file = [ctypes.c_char_p, ctypes.c_size_t]
+_written = [ctypes.POINTER(ctypes.c_uint8), ctypes.c_size_t]
 _FUNCTIONS = {
     "release": (ctypes.c_uint32, []),
     "judge": (_JudgeAnswer, _file + _file),
-    "work_out": (_PlanAnswer, _file + [ctypes.POINTER(ctypes.c_uint8), ctypes.c_size_t]),
+    "work_out": (_PlanAnswer, _file + _written),
+    "shift": (_JudgeAnswer, _file + _written + [ctypes.c_size_t]),
     "read_junction": (_JunctionAnswer, _file),
     "intergreen": (_Figure, _file + [ctypes.c_size_t, ctypes.c_size_t]),
     "need": (_Figure, _file + [ctypes.c_size_t, ctypes.c_uint16]),
@@ -170,6 +173,12 @@ def _lent(data):
     return data, len(data)
 
 
+def _lent_to_write(buffer):
+    """The memory of a buffer that can be written, and its length."""
+    lent = (ctypes.c_uint8 * memoryview(buffer).nbytes).from_buffer(buffer)
+    return lent, len(lent)
+
+
 def _answer(word, *arguments):
     """The answer of a function, where nothing is refused."""
     answer = _functions[word](*arguments)
@@ -200,8 +209,7 @@ def judge(junction, plan):
 def work_out_into(junction, buffer):
     """Works out a plan for a junction file and writes its plan file into a buffer, as a bytearray, from the first byte: a Worked. A refusal
     alters no byte."""
-    lent = (ctypes.c_uint8 * memoryview(buffer).nbytes).from_buffer(buffer)
-    answer = _answer("work_out", *_lent(junction), lent, len(lent))
+    answer = _answer("work_out", *_lent(junction), *_lent_to_write(buffer))
     return Worked(answer.cycle, answer.tried, answer.size)
 
 
@@ -210,6 +218,19 @@ def work_out(junction):
     buffer = bytearray(_plan_length(16))
     worked = work_out_into(junction, buffer)
     return Plan(bytes(buffer[:worked.size]), worked.cycle, worked.tried)
+
+
+def shift_in_place(junction, plan, offset):
+    """Adds an offset in seconds, below the cycle, to every start of a plan file, modulo the cycle, in the buffer itself, as a bytearray. A refusal
+    alters no byte. The plan need not be accepted, and is judged alike before and after."""
+    _answer("shift", *_lent(junction), *_lent_to_write(plan), _whole(offset, 64, "an offset"))
+
+
+def shift(junction, plan, offset):
+    """The bytes of a plan file with an offset in seconds, below the cycle, added to every start, modulo the cycle."""
+    shifted = bytearray(_lent(plan)[0])
+    shift_in_place(junction, shifted, offset)
+    return bytes(shifted)
 
 
 def intergreen(junction, leaving, starting):

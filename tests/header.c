@@ -223,6 +223,24 @@ static void judge_changed(const char *what, size_t place, uint8_t byte)
     judge(what, whole, with_byte(changed, place, byte), sizeof changed);
 }
 
+/* Lends a copy of the plan file to be written, and prints all of it. */
+static void shift(const char *what, struct file j, const uint8_t *bytes, size_t length, size_t offset)
+{
+    uint8_t *lent = (uint8_t *)alone(bytes, length);
+    struct givendra_judge_answer a = givendra_shift(j.bytes, j.length, lent, length, offset);
+    printf("shift, %s, %s, by %zu: refusal %u place %zu\n ", j.name, what, offset, a.refusal, a.place);
+    for (size_t i = 0; i < length; i++)
+        printf(" %02x", lent[i]);
+    printf("\n");
+    free(lent);
+}
+
+static void shift_changed(const char *what, size_t place, uint8_t byte, size_t offset)
+{
+    uint8_t changed[sizeof plan];
+    shift(what, whole, with_byte(changed, place, byte), sizeof changed, offset);
+}
+
 /* The value by its bits. */
 static void delay(const char *what, struct file j, const uint8_t *bytes, size_t length, size_t stream)
 {
@@ -420,6 +438,26 @@ static void judging(void)
         judge(refused[i].name, refused[i], plan, 6);
 }
 
+/* The starts 0 and 40 of cycle 50: by 10 they are 10 and 0, since 40 + 10 is the cycle, and by 49 they are 49 and 39. From 50 on 24; the last three are
+ * below 50 where they are cut to 16 or 32 bits, or taken as -1. Plans that the judge refuses by 17 and 15 are shifted too. 13 for a cycle of 0 and a
+ * start of 50, 11, and 12 come before 24, and the junction's questions before all. */
+static void shifting(void)
+{
+    static const size_t offsets[] = {0, 1, 10, 49, 50, 51, 65546, 4294967306, (size_t)-1};
+    for (size_t i = 0; i < LENGTH(offsets); i++)
+        shift("the plan", whole, plan, sizeof plan, offsets[i]);
+    shift_changed("a start of 39", 18, 39, 11);
+    shift_changed("a length of 5", 20, 5, 10);
+    shift_changed("cycle 0", 4, 0, 0);
+    shift_changed("a start of 50", 10, 50, 99);
+    shift("six bytes of the plan", whole, plan, 6, 60);
+    shift("the last byte cut off", whole, plan, sizeof plan - 1, 60);
+    shift("no byte of a plan", whole, plan, 0, 60);
+    shift("no byte of a plan at NULL", whole, NULL, 0, 60);
+    for (size_t i = 0; i < LENGTH(refused); i++)
+        shift("six bytes of the plan", refused[i], plan, 6, 60);
+}
+
 /* By request 2026-05's formulas in double: 36 of 50 s with 600 E/h, and with 900 E/h in the second period; 16 of 50 s. At exact capacity, 1,386 x 50
  * = 1,925 x 36, g x S is 1,386 and u is 1. Without a zone the car's green can be 49 of 50 s, and g is 1. The pedestrian and numbers of no stream
  * get 9, after all that the judge refuses. */
@@ -470,7 +508,7 @@ static void greens(void)
 /* Every number in use, those between them, and others. */
 static void texts(void)
 {
-    for (unsigned number = 0; number <= 24; number++)
+    for (unsigned number = 0; number <= 25; number++)
         printf("text %u: %s\n", number, givendra_refusal_text(number));
     printf("text 256: %s\n", givendra_refusal_text(256));
     printf("text 4294967295: %s\n", givendra_refusal_text(4294967295));
@@ -488,6 +526,7 @@ int main(void)
     counts();
     working_out();
     judging();
+    shifting();
     delays();
     greens();
     texts();

@@ -38,6 +38,7 @@ same "the installed files" 0 "./bin/accepted
 ./bin/intergreens
 ./bin/judge
 ./bin/plan
+./bin/shift
 ./include/givendra.h
 ./lib/libgivendra.a
 ./lib/libgivendra.so
@@ -71,6 +72,9 @@ same "the next release" 2 "desk: the library is of release $((release + 1)), and
 bin=$prefix/bin
 same "the installed plan" 0 "$(cat "$whole.txt")" sh -c '"$1" < "$2"' sh "$bin/plan" "$whole.junction"
 same "the installed delay" 0 "1 delay 3.5 A" "$bin/delay" "$whole.junction" "$whole.plan"
+same "the installed shift" 0 "cycle 50
+1 10 35
+2 0 6" "$bin/shift" "$whole.junction" "$whole.plan" 10
 same "the installed intergreens" 0 "$(cat "$root/crates/intergreens/stdout")" sh -c '"$1" < "$2"' sh "$bin/intergreens" "$root/examples/four_phases.junction"
 : > empty.plan
 for accepted in "$bin/accepted" "$root/tools/accepted"; do

@@ -1,10 +1,10 @@
 #!/bin/sh
-# Runs the programs judge, plan, delay and intergreens on files, and compares what they write with what they should. What rt has proved and has not
-# changed since is not proved again.
+# Runs the programs judge, plan, shift, delay and intergreens on files, and compares what they write with what they should. What rt has proved and
+# has not changed since is not proved again.
 cd "$(dirname "$0")/.." || exit 1
 work=$(mktemp -d) || exit 1
 trap 'rm -rf "$work"' EXIT
-rt check judge plan delay intergreens > "$work/log" 2>&1 || { tail -n 20 "$work/log"; exit 1; }
+rt check judge plan shift delay intergreens > "$work/log" 2>&1 || { tail -n 20 "$work/log"; exit 1; }
 failed=0
 
 # same NAME EXPECTED-OUTPUT EXPECTED-ERROR COMMAND..: compares standard output and standard error.
@@ -193,38 +193,87 @@ told 'every kind, the car before' '1 delay 3.5 A\n6 delay 8.3 A'
 told 'a car with a delay beside one at u 1' '1 delay 29.3 B\n2 saturation 1.0 F'
 told '9, count after the design day, stream 1' 'refused 9 1'
 
-# Bad input and output, of each program that reads a junction and a plan.
-for program in judge delay; do
-    bin=target/bin/$program usage="usage: $program JUNCTION-FILE PLAN-FILE\n"
+# shifted EXAMPLE OFFSET: `shift` prints the plan of an example with every start moved, and keeps it in a file, which `judge` accepts, and of which
+# `delay` tells what it tells of the plan. The plan file that it reads stays as it is.
+shifted() {
+    rm -f "$work/before.plan" "$work/after.plan"
+    target/bin/plan "examples/$1.junction" "$work/before.plan" > "$work/out" 2>&1
+    cp "$work/before.plan" "$work/read.plan"
+    moved=$(awk -v offset="$2" 'NR == 1 { cycle = $2; print; next } { print $1, ($2 + offset) % cycle, $3 }' "examples/$1.txt")
+    same "shift of $1 by $2" "$moved\n" '' target/bin/shift "examples/$1.junction" "$work/read.plan" "$2" "$work/after.plan"
+    same "shift of $1 by $2, without a new file" "$moved\n" '' target/bin/shift "examples/$1.junction" "$work/read.plan" "$2"
+    cmp "$work/before.plan" "$work/read.plan" || failed=1
+    same "judge of $1 shifted by $2" 'accepted\n' '' $judge "examples/$1.junction" "$work/after.plan"
+    same "delay of $1 shifted by $2" "$(target/bin/delay "examples/$1.junction" "$work/before.plan")\n" '' target/bin/delay "examples/$1.junction" "$work/after.plan"
+}
+
+shifted whole_case 0
+shifted whole_case 10
+shifted whole_case 49
+shifted evening 30
+shifted four_phases 61
+shifted island 7
+shifted pedestrian_phase 45
+shifted stop_tram 88
+
+# The bytes of a shifted file; plans that the judge refuses; offsets that are refused, also where a part of their bits or digits is below the cycle.
+shift=target/bin/shift
+same "shift keeps its file" 'cycle 50\n1 10 35\n2 0 6\n' '' $shift $junction $plan 10 "$work/shifted.plan"
+{ bytes 0 10 $plan; printf '\012'; bytes 11 7 $plan; printf '\000'; bytes 19 2 $plan; } | cmp - "$work/shifted.plan" || failed=1
+same "shift of a start of 39" 'cycle 50\n1 11 35\n2 0 6\n' '' $shift $junction "$work/early.plan" 11 "$work/early_shifted.plan"
+same "judge of a start of 39, shifted" 'refused 17 1\n' '' $judge $junction "$work/early_shifted.plan"
+same "shift by 007" 'cycle 50\n1 7 35\n2 47 6\n' '' $shift $junction $plan 007
+for offset in 50 51 256 65546 4294967306 18446744073709551615 18446744073709551626 1000000000000000010 100000000000000000000000000000000000000010; do
+    same "shift by $offset" 'refused 24 0\n' '' $shift $junction $plan $offset "$work/refused.plan"
+    same "shift of an empty plan by $offset" 'refused 12 0\n' '' $shift $junction "$work/empty" $offset "$work/refused.plan"
+done
+[ ! -e "$work/refused.plan" ] || { echo "programs: a refused shift makes a plan file"; failed=1; }
+for offset in '' x 5x x5 5: 5/ ' 5' '5 ' +5 -5 5.0 5,000 0x5 "$long"; do
+    same "shift by '$offset'" '' 'usage: shift JUNCTION-FILE PLAN-FILE OFFSET [NEW-PLAN-FILE]\n' $shift $junction $plan "$offset"
+done
+same "shift over a file" '' "$work/shifted.plan: File exists\n" $shift $junction $plan 20 "$work/shifted.plan"
+cp "$work/shifted.plan" "$work/own.plan"
+same "shift over its own plan" '' "$work/own.plan: File exists\n" $shift $junction "$work/own.plan" 20 "$work/own.plan"
+cmp "$work/shifted.plan" "$work/own.plan" || failed=1
+same "shift into no folder" '' "$work/none/plan: No such file or directory\n" $shift $junction $plan 10 "$work/none/plan"
+same "shift with an empty name for its file" '' 'shift: a file name is empty or too long\n' $shift $junction $plan 10 ''
+same "shift with an option for its file" '' 'usage: shift JUNCTION-FILE PLAN-FILE OFFSET [NEW-PLAN-FILE]\n' $shift $junction $plan 10 -x
+same "shift with too many arguments" '' 'usage: shift JUNCTION-FILE PLAN-FILE OFFSET [NEW-PLAN-FILE]\n' $shift $junction $plan 10 "$work/a" "$work/b"
+same "shift without an offset" '' 'usage: shift JUNCTION-FILE PLAN-FILE OFFSET [NEW-PLAN-FILE]\n' $shift $junction $plan
+
+# Bad input and output, of each program that reads a junction and a plan. $more is what it is called with after them.
+for program in judge delay shift; do
+    bin=target/bin/$program usage="usage: $program JUNCTION-FILE PLAN-FILE\n" more= early='refused 17 1\n'
     case $program in
     judge) answer='accepted\n' ;;
-    *) answer='1 delay 3.5 A\n' ;;
+    delay) answer='1 delay 3.5 A\n' ;;
+    *) answer='cycle 50\n1 10 35\n2 0 6\n' early='cycle 50\n1 10 35\n2 49 6\n' more=10 usage='usage: shift JUNCTION-FILE PLAN-FILE OFFSET [NEW-PLAN-FILE]\n' ;;
     esac
-    same "$program of the whole case" "$answer" '' $bin $junction $plan
-    same "$program of a start of 39" 'refused 17 1\n' '' $bin $junction "$work/early.plan"
-    same "$program of an empty plan" 'refused 12 0\n' '' $bin $junction "$work/empty"
-    same "$program of an empty junction" 'refused 8 0\n' '' $bin "$work/empty" $plan
-    same "$program with 70,000 bytes after the plan" 'refused 12 21\n' '' $bin $junction "$work/long.plan"
-    same "$program with no such junction" '' "$work/none: No such file or directory\n" $bin "$work/none" $plan
-    same "$program with no such plan" '' "$work/none: No such file or directory\n" $bin $junction "$work/none"
-    same "$program with a folder for a plan" '' "$work: Is a directory\n" $bin $junction "$work"
+    same "$program of the whole case" "$answer" '' $bin $junction $plan $more
+    same "$program of a start of 39" "$early" '' $bin $junction "$work/early.plan" $more
+    same "$program of an empty plan" 'refused 12 0\n' '' $bin $junction "$work/empty" $more
+    same "$program of an empty junction" 'refused 8 0\n' '' $bin "$work/empty" $plan $more
+    same "$program with 70,000 bytes after the plan" 'refused 12 21\n' '' $bin $junction "$work/long.plan" $more
+    same "$program with no such junction" '' "$work/none: No such file or directory\n" $bin "$work/none" $plan $more
+    same "$program with no such plan" '' "$work/none: No such file or directory\n" $bin $junction "$work/none" $more
+    same "$program with a folder for a plan" '' "$work: Is a directory\n" $bin $junction "$work" $more
     same "$program with one name" '' "$usage" $bin $junction
     same "$program with three names" '' "$usage" $bin $junction $plan $plan
     same "$program -h" '' "$usage" $bin -h
-    same "$program --help and a name" '' "$usage" $bin --help $plan
-    same "$program with an option for a plan" '' "$usage" $bin $junction -x
-    same "$program of an empty name" '' "$program: a file name is empty or too long\n" $bin '' $plan
-    same "$program of a plan's name of 5,000 bytes" '' "$program: a file name is empty or too long\n" $bin $junction "$long"
-    same "$program of a junction that cannot be read" '' '/proc/self/mem: Input/output error\n' $bin /proc/self/mem $plan
-    same "$program of a plan that cannot be read" '' '/proc/self/mem: Input/output error\n' $bin $junction /proc/self/mem
-    same "$program of text for a junction" 'refused 2 0\n' '' $bin "$work/text" $plan
-    same "$program of text for a plan" 'refused 11 0\n' '' $bin $junction "$work/text"
-    same "$program of a megabyte for a junction" 'refused 1 0\n' '' $bin "$work/megabyte" $plan
-    same "$program of a megabyte for a plan" 'refused 12 0\n' '' $bin $junction "$work/megabyte"
-    same "$program with its input closed" "$answer" '' sh -c "$bin $junction $plan <&-"
-    same "$program to a full output" '' "$program: standard output: No space left on device\n" sh -c "$bin $junction $plan > /dev/full"
-    same "$program to a closed output" '' "$program: standard output: Bad file descriptor\n" sh -c "$bin $junction $plan >&-"
+    same "$program --help and a name" '' "$usage" $bin --help $plan $more
+    same "$program with an option for a plan" '' "$usage" $bin $junction -x $more
+    same "$program of an empty name" '' "$program: a file name is empty or too long\n" $bin '' $plan $more
+    same "$program of a plan's name of 5,000 bytes" '' "$program: a file name is empty or too long\n" $bin $junction "$long" $more
+    same "$program of a junction that cannot be read" '' '/proc/self/mem: Input/output error\n' $bin /proc/self/mem $plan $more
+    same "$program of a plan that cannot be read" '' '/proc/self/mem: Input/output error\n' $bin $junction /proc/self/mem $more
+    same "$program of text for a junction" 'refused 2 0\n' '' $bin "$work/text" $plan $more
+    same "$program of text for a plan" 'refused 11 0\n' '' $bin $junction "$work/text" $more
+    same "$program of a megabyte for a junction" 'refused 1 0\n' '' $bin "$work/megabyte" $plan $more
+    same "$program of a megabyte for a plan" 'refused 12 0\n' '' $bin $junction "$work/megabyte" $more
+    same "$program with its input closed" "$answer" '' sh -c "$bin $junction $plan $more <&-"
+    same "$program to a full output" '' "$program: standard output: No space left on device\n" sh -c "$bin $junction $plan $more > /dev/full"
+    same "$program to a closed output" '' "$program: standard output: Bad file descriptor\n" sh -c "$bin $junction $plan $more >&-"
 done
 
-[ $failed = 0 ] && echo "programs: judge, plan, delay and intergreens write what they should"
+[ $failed = 0 ] && echo "programs: judge, plan, shift, delay and intergreens write what they should"
 exit $failed

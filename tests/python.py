@@ -65,6 +65,18 @@ def told_delay(words, junction):
     return "%s %s" % (word if told.outcome == givendra.NO_RED and told.value == 0 else word + " " + bits, told.level)
 
 
+def told_shift(words, junction):
+    """A refusal alters no byte. Without a lent buffer the answer is the same."""
+    offset, _, words = words.strip().partition(" ")
+    before = file_of(words)
+    lent = bytearray(before)
+    refused = outcome(givendra.shift_in_place, file_of(junction), lent, int(offset))
+    whole = outcome(givendra.shift, file_of(junction), before, int(offset))
+    if whole != (refused or bytes(lent)):
+        return "without a lent buffer %s" % (whole,)
+    return "%s %s" % (refused, "kept" if lent == before else "spoilt") if refused else "shifted " + lent.hex()
+
+
 def told_plan(words, _):
     """The bytes behind the lent ones, and of these all behind the plan file, stay as they were. Working out without a lent buffer answers alike."""
     room, _, words = words.strip().partition(" ")
@@ -86,7 +98,7 @@ def answered(case):
     if not line or line.startswith("#"):
         return line
     head, _, words = line.partition(":")
-    told = {"read": told_reading, "judge": told_judgement, "delay": told_delay, "plan": told_plan}[head.split()[0]]
+    told = {"read": told_reading, "judge": told_judgement, "delay": told_delay, "shift": told_shift, "plan": told_plan}[head.split()[0]]
     return "%s: %s" % (head, told(words, junction))
 
 
@@ -178,6 +190,10 @@ def own():
     for stream, expected in ((-1, "OverflowError"), (1 << 64, "OverflowError"), (1.0, "TypeError"), ((1 << 64) - 1, "refused 9 18446744073709551615")):
         same("the delay of stream %r" % stream, outcome(givendra.delay, junction, plan, stream), expected)
     same("a buffer that cannot be written", outcome(givendra.work_out_into, junction, bytes(21)), "TypeError")
+    for offset, expected in ((-1, "OverflowError"), (1 << 64, "OverflowError"), (1.0, "TypeError"), ((1 << 64) - 1, "refused 24 0"), (0, plan)):
+        same("a shift by %r" % offset, outcome(givendra.shift, junction, plan, offset), expected)
+    same("a plan that cannot be written", outcome(givendra.shift_in_place, junction, plan, 1), "TypeError")
+    same("a plan in a memoryview", givendra.green(givendra.shift(memoryview(junction), memoryview(plan), 10), 2), (0, 6))
     same("a green of no stream", outcome(givendra.green, b"", -1), "OverflowError")
 
     days = [givendra.Count(1, 8999, 0, 500, 1), (1, 9000, 0, 600, 1), (1, 8000, 0, 900, 1), (1, 9001, 0, 700, 1), (1, 9000, 0, 800, 2),

@@ -1,6 +1,6 @@
 /* Measures the stack of the library's calls. Calls each function on a stack of its own that is filled with a5, looks how far down it was
- * altered, and prints the most bytes that a call took. The words are names of junction files; each is planned, its plan judged, and its figures
- * and a delay asked for. Ends with status 1 where a call took GIVENDRA_STACK bytes or more. */
+ * altered, and prints the most bytes that a call took. The words are names of junction files; each is planned, its plan judged, its figures
+ * and a delay asked for, and its plan shifted. Ends with status 1 where a call took GIVENDRA_STACK bytes or more. */
 #define _XOPEN_SOURCE 700
 #include "givendra.h"
 #include <stdio.h>
@@ -19,11 +19,13 @@ static void need(void) { givendra_need(junction, length, 1, 100); }
 static void saturation_flow(void) { givendra_saturation_flow(junction, length, 1); }
 static void flow_ratio(void) { givendra_flow_ratio(junction, length, 1); }
 static void delay(void) { givendra_delay(junction, length, plan, plan_length, 1); }
+static void shift(void) { givendra_shift(junction, length, plan, plan_length, 1); }
 static void newest_count(void) { givendra_newest_count(list, 2, 1, 9000, 1); }
 static void release(void) { givendra_release(); }
 
 /* The plan is worked out before it is judged. */
-static void (*const calls[])(void) = {work_out, judge, read_junction, intergreen, need, saturation_flow, flow_ratio, delay, newest_count, release};
+static void (*const calls[])(void) = {work_out, judge, read_junction, intergreen, need, saturation_flow, flow_ratio, delay, shift, newest_count,
+                                      release};
 
 static ucontext_t here, there;
 static void (*called)(void);

@@ -71,5 +71,6 @@ extern "C" {
     pub fn givendra_saturation_flow(junction: *const u8, junction_length: usize, stream: usize) -> Figure;
     pub fn givendra_flow_ratio(junction: *const u8, junction_length: usize, stream: usize) -> Figure;
     pub fn givendra_delay(junction: *const u8, junction_length: usize, plan: *const u8, plan_length: usize, stream: usize) -> DelayAnswer;
+    pub fn givendra_shift(junction: *const u8, junction_length: usize, plan: *mut u8, plan_length: usize, offset: usize) -> JudgeAnswer;
     pub fn givendra_newest_count(list: *const CountRecord, list_length: usize, stream: usize, design_day: u16, period: usize) -> Figure;
 }

@@ -8,12 +8,14 @@
 //! - `judge LABEL: HEX` is a plan file; `accepted` or `refused N P` is printed;
 //! - `delay LABEL: STREAM HEX` is a stream's number and a plan file; `delay BITS LEVEL`, `saturation BITS F`, `no red A` or
 //!   `refused N P` is printed, where BITS are the 64 bits of the number in 16 hexadecimal digits;
+//! - `shift LABEL: OFFSET HEX` is an offset and a plan file; `shifted HEX` with every byte of the lent file afterwards is
+//!   printed, without spaces, or `refused N P`, then `kept` where no byte of the lent file changed, else `spoilt`;
 //! - `plan LABEL: SIZE HEX` is the lent buffer's size and a junction file; the cycle, the tried count and the plan file are
 //!   printed, or `refused N P`, then `kept` where the rest of the buffer is as it was.
 //!
 //! Bytes are in lower-case hexadecimal, with or without spaces; `*N` after a byte stands for that byte N times.
 
-use crate::{delay, judge, read_junction, Delay, Refusal};
+use crate::{delay, judge, read_junction, shift, Delay, Refusal};
 
 /// The bytes that a text stands for.
 pub fn bytes_of(text: &str) -> Vec<u8> {
@@ -84,6 +86,7 @@ fn case(head: &str, text: &str, junction: &[u8]) -> String {
         Some(("read", _)) => read(&bytes_of(text)),
         Some(("judge", _)) => answer(judge(junction, &bytes_of(text))),
         Some(("delay", _)) => delayed(text, junction),
+        Some(("shift", _)) => shifted(text, junction),
         Some(("plan", _)) => planned(text),
         _ => panic!("not known: {head}"),
     }
@@ -108,7 +111,22 @@ fn delayed(text: &str, junction: &[u8]) -> String {
     }
 }
 
-/// The number of a case, a stream's or the size of the lent buffer, and the file after it.
+/// The shift's answer in words, with the lent file afterwards or what became of it.
+fn shifted(text: &str, junction: &[u8]) -> String {
+    let (offset, plan) = number_and_file(text);
+    let mut lent = plan.clone();
+    match shift(junction, &mut lent, offset) {
+        Ok(()) => format!("shifted {}", hex_of(&lent)),
+        Err(r) => format!("{} {}", answer(Err(r)), if lent == plan { "kept" } else { "spoilt" }),
+    }
+}
+
+/// Every byte in two hexadecimal digits.
+fn hex_of(bytes: &[u8]) -> String {
+    bytes.iter().map(|b| format!("{b:02x}")).collect()
+}
+
+/// The number of a case, a stream's, an offset or the size of the lent buffer, and the file after it.
 fn number_and_file(text: &str) -> (usize, Vec<u8>) {
     let text = text.strip_prefix(' ').unwrap_or(text);
     let (number, hex) = text.split_once(' ').unwrap_or((text, ""));
@@ -122,8 +140,7 @@ fn planned(text: &str) -> String {
     let (words, written) = match crate::work_out(&junction, &mut buffer) {
         Ok(w) => {
             let length = w.plan.to_file().len();
-            let hex: String = buffer[..length].iter().map(|b| format!("{b:02x}")).collect();
-            (format!("cycle {} tried {} plan {hex}", w.cycle, w.tried), length)
+            (format!("cycle {} tried {} plan {}", w.cycle, w.tried, hex_of(&buffer[..length])), length)
         }
         Err(r) => (answer(Err(r)), 0),
     };

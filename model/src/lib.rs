@@ -1,6 +1,6 @@
 //! A second implementation of document 01 ("Junction timing by the annex of RD-02-21-2"), with requests 2026-01 (crossings with
-//! an island), 2026-02 (trams past forty metres), 2026-03 (no answer changed), 2026-04 (periods) and 2026-05 (delay and level
-//! of service) of document 02, written apart from the first.
+//! an island), 2026-02 (trams past forty metres), 2026-03 (no answer changed), 2026-04 (periods), 2026-05 (delay and level
+//! of service) and 2026-06 (offsets along a street) of document 02, written apart from the first.
 //!
 //! It is written by the most direct reading and not for speed, so that it can be read beside the paper:
 //! - `exact`:    seconds as fractions and roots, compared exactly;
@@ -11,6 +11,7 @@
 //! - `judge`:    "Judging a plan": the rules 15, 16, 17;
 //! - `meaning`:  the same by brute force over three cycles, with neither `off` nor an entry;
 //! - `delay`:    the delay of a car in an accepted plan, and its level of service, in f64;
+//! - `shift`:    one offset for every start of a plan file, question 24;
 //! - `work_out`: "Working out a plan", questions 21, 22, 23;
 //! - `random`, `generate`, `faults`: random junction and plan files for the tests, taken and refused;
 //! - `cases`:    the text form of the stored test cases.
@@ -26,6 +27,7 @@ pub mod junction;
 pub mod meaning;
 pub mod plan;
 pub mod random;
+pub mod shift;
 pub mod times;
 pub mod work_out;
 
@@ -34,6 +36,7 @@ pub use judge::judge;
 pub use junction::{read_junction, Junction};
 pub use meaning::meaning;
 pub use plan::{read_plan, Plan};
+pub use shift::shift;
 pub use work_out::{work_out, Worked};
 
 /// A refusal is the number of the question and a place: mostly the offset of a field's tag.

@@ -10,6 +10,7 @@ use model::generate::*;
 use model::judge::rules;
 use model::junction::{is_period, two, Junction, Kind};
 use model::random::{seed, Random};
+use model::shift::{shift_for, start_of};
 use model::times::{accelerating, at_full_speed, entry, leaving, reaching, zone_distances, Entries};
 use model::work_out::{search, write, Worked};
 use model::{meaning, read_plan, Plan, Refusal};
@@ -49,6 +50,11 @@ impl Known {
         let plan = read_plan(plan, junction)?;
         rules(junction, &plan, self.entries.as_ref().unwrap())?;
         Ok((junction, plan))
+    }
+
+    fn shift(&self, plan: &mut [u8], offset: usize) -> Result<(), Refusal> {
+        let junction = self.read.as_ref().map_err(|e| *e)?;
+        shift_for(junction, plan, offset)
     }
 
     fn work_out(&self, buffer: &mut [u8]) -> Result<&Worked, Refusal> {
@@ -242,31 +248,33 @@ const JUNCTION: [u8; 9] = [1, 2, 3, 4, 5, 6, 7, 8, 9];
 
 const PAIRS: usize = 250_000;
 
-/// Pairs of files of every sort: reading, judging and working out.
+/// Pairs of files of every sort: reading, judging, shifting and working out.
 #[test]
 fn files() {
     let mut r = Random::new(seed("files", 11));
     let judges = ["judge", "judge, islands", "judge, floor", "judge, periods"];
     let others = ["read_junction", "by period", "work_out", "work_out, floor", "worked, periods"];
     let mut hits = Hits::new(&[&judges[..], &others, &PLANNED].concat());
+    let mut shifts = Hits::new(&[&SHIFT_COLUMNS[..], &SUM_COLUMNS, &CUT_COLUMNS].concat());
     let mut pairs = 0;
     while pairs < PAIRS {
         if r.one_in(8) {
             let junction = if r.one_in(8) { limit_junction(&mut r) } else { rich_junction(&mut r) };
             let file = junction.to_file();
             let file = if r.one_in(6) { at_the_limits(&mut r, &file) } else { file };
-            pairs += check_with_plans(&mut r, &mut hits, &file);
+            pairs += check_with_plans(&mut r, &mut hits, &mut shifts, &file);
         } else {
             let file = faulty_junction(&mut r);
             let planned = rich_junction(&mut r);
             let plan = any_plan(&mut r, &planned).to_file();
             let known = Known::of(&file);
             if known.read.is_ok() {
-                pairs += check_with_plans(&mut r, &mut hits, &file);
+                pairs += check_with_plans(&mut r, &mut hits, &mut shifts, &file);
             }
             let (lent, plan) = (Lent::new(&mut r, &file), Lent::new(&mut r, &plan));
             check_reading(&mut hits, &lent, &known);
             check_judging(&mut hits, &lent, &plan, &known);
+            check_shifting(&mut r, &mut shifts, &lent, plan.bytes(), &known);
             let size = r.pick(&[0, 20, 21, 133, 140]);
             check_working_out(&mut r, &mut hits, &lent, size, &known);
             pairs += 1;
@@ -274,6 +282,7 @@ fn files() {
     }
     println!("{pairs} pairs of junction and plan file");
     hits.print();
+    shifts.print();
     hits.at_least(1_000, "judge", &JUNCTION);
     hits.at_least(1_000, "judge", &[0, 11, 12, 13, 15, 16, 17]);
     hits.at_least(1_000, "judge, islands", &[0, 15, 16, 17]);
@@ -290,10 +299,21 @@ fn files() {
     hits.at_least(1_000, "work_out, floor", &[0]);
     hits.at_least(200, "work_out, floor", &[21, 22, 23]);
     hits.at_least(1_000, "worked, periods", &[0, 21, 22, 23]);
+    shifts.at_least(1_000, "shift", &JUNCTION);
+    shifts.at_least(1_000, "shift", &[0, 11, 12, 13, 24]);
+    shifts.at_least(500, "too large", &JUNCTION);
+    shifts.at_least(1_000, "too large", &[11, 12, 13, 24]);
+    shifts.at_least(1_000, "shifted, judged", &[0, 15, 16, 17]);
+    for name in SUM_COLUMNS {
+        shifts.at_least(1_000, name, &[0]);
+    }
+    for name in CUT_COLUMNS {
+        shifts.at_least(1_000, name, &[24]);
+    }
 }
 
 /// A junction file that is probably taken, with plans of every sort; the number of pairs.
-fn check_with_plans(r: &mut Random, hits: &mut Hits, file: &[u8]) -> usize {
+fn check_with_plans(r: &mut Random, hits: &mut Hits, shifts: &mut Hits, file: &[u8]) -> usize {
     let known = Known::of(file);
     let lent = Lent::new(r, file);
     check_reading(hits, &lent, &known);
@@ -308,6 +328,7 @@ fn check_with_plans(r: &mut Random, hits: &mut Hits, file: &[u8]) -> usize {
         let plan = if i % 2 == 0 { good.clone() } else { faulty_plan(r, &good, &other) };
         let (lent, plan) = (Lent::new(r, file), Lent::new(r, &plan));
         check_judging(hits, &lent, &plan, &known);
+        check_shifting(r, shifts, &lent, plan.bytes(), &known);
         other = good;
     }
     PLANS
@@ -655,13 +676,152 @@ fn delays() {
     }
 }
 
+// ---- offsets along a street
+
+/// Every answer; those to an offset that is not below the number in the cycle's place, so that 24 could be given too soon; and
+/// what the judge says of the plans that were shifted.
+const SHIFT_COLUMNS: [&str; 3] = ["shift", "too large", "shifted, judged"];
+/// The starts that were moved, by start + offset.
+const SUM_COLUMNS: [&str; 4] = ["sum below C", "sum C", "sum above C", "sum above 255"];
+/// The answers 24 to an offset that is below C if it is cut.
+const CUT_COLUMNS: [&str; 4] = ["cut to 8 bits", "cut to 16 bits", "cut to 32 bits", "cut to 63 bits"];
+
+/// The number in the cycle's place of a plan file of any sort; 50 where the file has none.
+fn number_of_cycle(plan: &[u8]) -> usize {
+    if plan.len() < 5 { 50 } else { two(plan, 3) as usize }
+}
+
+/// An offset for a plan file: below the cycle, at 0, at the cycle or beside these, such that a start comes to C, below the cycle
+/// but for higher bits, or any.
+fn some_offset(r: &mut Random, plan: &[u8]) -> usize {
+    let cycle = number_of_cycle(plan);
+    let below = r.from_to(0, cycle.clamp(1, 180) as i64 - 1) as usize;
+    match r.from_to(1, 20) {
+        1 => 0,
+        2 => 1,
+        3 => cycle.saturating_sub(1),
+        4 => cycle,
+        5 => cycle + 1,
+        6 if plan.len() >= 13 => {
+            let stream = r.from_to(1, (plan.len() as i64 - 5) / 8) as usize;
+            cycle.saturating_sub(two(plan, start_of(stream)) as usize)
+        }
+        7 => 256 + below,
+        8 => 65_536 + below,
+        9 => (1 << 32) + below,
+        10 => (1 << 63) + below,
+        11 => (1 << r.from_to(8, 63)) + below,
+        12 => usize::MAX,
+        13 => r.any() as usize,
+        14 => r.from_to(0, 400) as usize,
+        _ => below,
+    }
+}
+
+/// One offset for all starts: the answer, and every byte of the plan file. The number of the refusal.
+fn check_shift(junction: &Lent, plan: &mut Lent, offset: usize, known: &Known) -> u8 {
+    let before = plan.bytes().to_vec();
+    let mut wanted = before.clone();
+    let model = judged(known.shift(&mut wanted, offset));
+    same(&format!("shift by {offset}"), shift(junction, plan, offset), model, junction.bytes(), &before);
+    same(&format!("the plan file after a shift by {offset}"), plan.bytes(), &wanted[..], junction.bytes(), &before);
+    model.refusal
+}
+
+/// The same with any offset; of a plan that is shifted, the library's judge says the same before and after.
+fn check_shifting(r: &mut Random, hits: &mut Hits, junction: &Lent, plan: &[u8], known: &Known) {
+    let offset = some_offset(r, plan);
+    let mut lent = Lent::new(r, plan);
+    let refusal = check_shift(junction, &mut lent, offset, known);
+    count_shift(hits, number_of_cycle(plan), offset, refusal);
+    if refusal == 0 {
+        let (before, after) = (Lent::new(r, plan), Lent::new(r, lent.bytes()));
+        let judgement = judge(junction, &before);
+        same(&format!("judge after a shift by {offset}"), judge(junction, &after), judgement, junction.bytes(), plan);
+        hits.hit("shifted, judged", judgement.refusal);
+        count_sums(hits, plan, offset);
+    }
+    // the model over the files
+    if r.one_in(8) {
+        let (mut lent, mut wanted) = (Lent::new(r, plan), plan.to_vec());
+        let model = judged(model::shift(junction.bytes(), &mut wanted, offset));
+        same("shift over the files", shift(junction, &mut lent, offset), model, junction.bytes(), plan);
+        same("the plan file after a shift over the files", lent.bytes(), &wanted[..], junction.bytes(), plan);
+    }
+}
+
+/// The answer to an offset, by what is large or cut in it.
+fn count_shift(hits: &mut Hits, cycle: usize, offset: usize, refusal: u8) {
+    hits.hit("shift", refusal);
+    if offset >= cycle {
+        hits.hit("too large", refusal);
+    }
+    for (column, bits) in CUT_COLUMNS.iter().zip([8, 16, 32, 63]) {
+        if refusal == 24 && offset % (1 << bits) < cycle {
+            hits.hit(column, refusal);
+        }
+    }
+}
+
+/// The starts of a plan that was shifted; an offset of 0 moves none.
+fn count_sums(hits: &mut Hits, plan: &[u8], offset: usize) {
+    if offset == 0 {
+        return;
+    }
+    let cycle = number_of_cycle(plan);
+    for stream in 1..=(plan.len() - 5) / 8 {
+        let sum = two(plan, start_of(stream)) as usize + offset;
+        hits.hit(SUM_COLUMNS[if sum < cycle { 0 } else if sum == cycle { 1 } else { 2 }], 0);
+        if sum > 255 {
+            hits.hit(SUM_COLUMNS[3], 0);
+        }
+    }
+}
+
+/// Every start in every cycle by every offset below the cycle, and by those at and above it.
+#[test]
+fn every_start_and_offset() {
+    let mut r = Random::new(seed("every_start_and_offset", 29));
+    let mut hits = Hits::new(&["shift"]);
+    let junction = make_junction(&mut r, 3, 16, 0, 1);
+    let known = Known::of(&junction.to_file());
+    let file = Lent::new(&mut r, &junction.to_file());
+    for cycle in 1..=180usize {
+        for first in (0..cycle).step_by(16) {
+            let mut plan = any_plan(&mut r, &junction);
+            plan.cycle = cycle as u16;
+            for (i, green) in plan.greens.iter_mut().enumerate() {
+                green.start = ((first + i) % cycle) as u16;
+                green.length = r.from_to(1, cycle as i64) as u16;
+            }
+            for offset in (0..=cycle + 1).chain([256, 65_536, 1 << 32, 1 << 63, usize::MAX]) {
+                let mut plan = Lent::new(&mut r, &plan.to_file());
+                hits.hit("shift", check_shift(&file, &mut plan, offset, &known));
+            }
+        }
+    }
+    hits.print();
+    hits.at_least(100_000, "shift", &[0]);
+    hits.at_least(1_000, "shift", &[24]);
+}
+
+/// Two junction files that differ in what no shift looks at: the same answer, and the same bytes afterwards.
+fn same_shift(r: &mut Random, hits: &mut Hits, what: &str, one: &Lent, two: &Lent, plan: &[u8]) {
+    let offset = some_offset(r, plan);
+    let (mut a, mut b) = (Lent::new(r, plan), Lent::new(r, plan));
+    let answer = shift(one, &mut a, offset);
+    same(&format!("shift by {offset} with {what}"), shift(two, &mut b, offset), answer, two.bytes(), plan);
+    same(&format!("the plan file after a shift by {offset} with {what}"), b.bytes(), a.bytes(), two.bytes(), plan);
+    hits.hit("shift", answer.refusal);
+}
+
 // ---- file days
 
 /// Other file days, and no answer of any entry changes.
 #[test]
 fn file_days() {
     let mut r = Random::new(seed("file_days", 14));
-    let mut hits = Hits::new(&["judge", "delay", "work_out"]);
+    let mut hits = Hits::new(&["judge", "delay", "shift", "work_out"]);
     for _ in 0..4_000 {
         let junction = if r.one_in(12) { limit_junction(&mut r) } else { rich_junction(&mut r) };
         let mut other = junction.clone();
@@ -680,6 +840,7 @@ fn file_days() {
             same("delay with other file days", delay(&two, &plan, s), answer, one.bytes(), plan.bytes());
             hits.hit("delay", answer.refusal);
         }
+        same_shift(&mut r, &mut hits, "other file days", &one, &two, plan.bytes());
         same("read_junction with other file days", read_junction(&two), read_junction(&one), one.bytes(), &[]);
         let (mut a, mut b) = (Lent::new(&mut r, &[7; 133]), Lent::new(&mut r, &[7; 133]));
         let answer = work_out(&one, &mut a);
@@ -698,6 +859,7 @@ fn file_days() {
     hits.print();
     hits.at_least(1_000, "judge", &[0]);
     hits.at_least(1_000, "delay", &[0, 9]);
+    hits.at_least(1_000, "shift", &[0, 24]);
     hits.at_least(1_000, "work_out", &[0]);
 }
 
@@ -723,7 +885,7 @@ fn with_other_counts(r: &mut Random, junction: &Junction) -> (&'static str, Junc
 fn other_periods() {
     let mut r = Random::new(seed("other_periods", 20));
     let sorts = ["changed", "added", "removed", "all three"];
-    let entries = ["judge", "delay", "work_out", "intergreen", "need", "saturation_flow", "flow_ratio"];
+    let entries = ["judge", "delay", "shift", "work_out", "intergreen", "need", "saturation_flow", "flow_ratio"];
     // where the answers would differ if the periods of the counts were not looked at
     let without = ["judge, without", "delay, without", "worked, without", "ratio, without"];
     let mut hits = Hits::new(&[&sorts[..], &entries, &without].concat());
@@ -759,6 +921,7 @@ fn other_periods() {
                     hits.hit("delay, without", answer.refusal);
                 }
             }
+            same_shift(&mut r, &mut hits, "other counts of other periods", &one, &two, plan.bytes());
         }
         let size = 5 + 8 * junction.streams.len();
         let size = r.pick(&[size - 1, size, size + 9, size + 9, size + 9]);
@@ -778,7 +941,7 @@ fn other_periods() {
             });
             let what = format!("figures with other counts of other periods, stream {s}, to {t}, cycle {cycle}");
             same(&what, answers[1], answers[0], two.bytes(), &[]);
-            for (name, answer) in entries[3..].iter().zip(answers[0]) {
+            for (name, answer) in entries[4..].iter().zip(answers[0]) {
                 hits.hit(name, answer.refusal);
             }
             if junction.streams.get(s.wrapping_sub(1)).is_some_and(|stream| stream.is_car())
@@ -801,6 +964,7 @@ fn other_periods() {
         hits.at_least(1_000, name, &[0, 7]);
     }
     hits.at_least(1_000, "delay", &[0, 9, 15, 16, 17]);
+    hits.at_least(1_000, "shift", &[0, 24]);
     hits.at_least(500, "judge, without", &[0]);
     hits.at_least(1_000, "delay, without", &[0]);
     hits.at_least(500, "worked, without", &[0]);

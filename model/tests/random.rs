@@ -8,8 +8,9 @@ use model::judge::rules;
 use model::junction::{is_period, read_junction, two, Count, IslandCrossing, Junction, Kind, Stream, Tram, Zone};
 use model::meaning::meaning_over;
 use model::random::{seed, Random};
+use model::shift::{shift_for, start_of};
 use model::times::{entry, leaving, reaching, Entries};
-use model::{delay, judge, meaning, read_plan, work_out, Plan, Refusal};
+use model::{delay, judge, meaning, read_plan, shift, work_out, Plan, Refusal};
 use std::collections::BTreeMap;
 
 fn is_island(stream: &Stream) -> bool {
@@ -961,5 +962,124 @@ fn delays_at_the_limits_come_often() {
     assert_eq!(sorts.len(), 5 * 3);
     for (sort, times) in &sorts {
         assert!(*times > 100, "{sort:?} came {times} times");
+    }
+}
+
+// ---- offsets along a street
+
+/// The plan read from its file after a shift by an offset below the cycle: it is the plan turned, and no byte but those of starts
+/// has changed.
+fn shifted(junction: &Junction, plan: &Plan, offset: usize) -> Plan {
+    let before = plan.to_file();
+    let mut file = before.clone();
+    assert_eq!(shift_for(junction, &mut file, offset), Ok(()), "{offset} {plan:?}");
+    let starts: Vec<usize> = (1..=plan.greens.len()).flat_map(|s| [start_of(s), start_of(s) + 1]).collect();
+    for at in (0..file.len()).filter(|at| !starts.contains(at)) {
+        assert_eq!(file[at], before[at], "byte {at}, {offset} {plan:?}");
+    }
+    let after = read_plan(&file, junction).expect("well-formed");
+    assert_eq!(after, turned(plan, offset as u16));
+    after
+}
+
+/// Plans for a junction: worked out, packed, a second beside these, and any.
+fn plans_of_every_sort(r: &mut Random, junction: &Junction, entries: &Entries) -> Vec<Plan> {
+    let mut plans: Vec<Plan> = worked_plan(junction).into_iter().collect();
+    plans.push(packed_plan(r, junction, entries));
+    plans.push(packed_plan(r, junction, entries));
+    plans.push(any_plan(r, junction));
+    let beside: Vec<Plan> = plans.iter().map(|plan| moved(r, plan)).collect();
+    plans.extend(beside);
+    plans
+}
+
+/// Judge and meaning say the same of a plan before and after, by one offset or, of some plans, by every one below the cycle.
+#[test]
+fn shifted_plans_are_judged_alike() {
+    let mut r = Random::new(seed("shifted_plans", 30));
+    let mut answers: BTreeMap<u8, usize> = BTreeMap::new();
+    let mut every: BTreeMap<u8, usize> = BTreeMap::new();
+    for _ in 0..2_500 {
+        let junction = if r.one_in(12) { limit_junction(&mut r) } else { rich_junction(&mut r) };
+        let (file, entries) = (junction.to_file(), Entries::of(&junction));
+        for plan in plans_of_every_sort(&mut r, &junction, &entries) {
+            let (judgement, meant) = (rules(&junction, &plan, &entries), meaning(&junction, &plan));
+            let number = judgement.err().map_or(0, |e| e.number);
+            let offset = r.from_to(0, plan.cycle as i64 - 1) as usize;
+            let all = r.one_in(40);
+            for offset in if all { 0..plan.cycle as usize } else { offset..offset + 1 } {
+                let after = shifted(&junction, &plan, offset);
+                assert_eq!(rules(&junction, &after, &entries), judgement, "{offset} {junction:?} {plan:?}");
+                assert_eq!(meaning(&junction, &after), meant, "{offset} {junction:?} {plan:?}");
+                *answers.entry(number).or_default() += 1;
+            }
+            *every.entry(number).or_default() += all as usize;
+            // over the files
+            if r.one_in(10) {
+                let mut shifted = plan.to_file();
+                assert_eq!(shift(&file, &mut shifted, offset), Ok(()));
+                assert_eq!(judge(&file, &shifted), judge(&file, &plan.to_file()));
+            }
+        }
+    }
+    println!("{answers:?}, by every offset {every:?}");
+    for number in [0, 15, 16, 17] {
+        assert!(answers[&number] > 2_000 && every[&number] > 20, "{answers:?} {every:?}");
+    }
+}
+
+/// Shifting by a and then by b is shifting by (a + b) modulo C, and C - a undoes a.
+#[test]
+fn shifts_add_up() {
+    let mut r = Random::new(seed("shifts_add_up", 31));
+    for _ in 0..4_000 {
+        let junction = rich_junction(&mut r);
+        let plan = any_plan(&mut r, &junction);
+        let cycle = plan.cycle as usize;
+        let (a, b) = (r.from_to(0, cycle as i64 - 1) as usize, r.from_to(0, cycle as i64 - 1) as usize);
+        let by_a = shifted(&junction, &plan, a);
+        assert_eq!(shifted(&junction, &by_a, b), shifted(&junction, &plan, (a + b) % cycle), "{a} {b} {plan:?}");
+        assert_eq!(shifted(&junction, &by_a, (cycle - a) % cycle), plan, "{a}");
+        assert_eq!(shifted(&junction, &plan, 0), plan);
+    }
+}
+
+/// A shift is refused as the judge refuses the files by 1 to 13, then by 24; it changes a byte only where nothing is refused.
+#[test]
+fn refused_shifts_change_nothing() {
+    let mut r = Random::new(seed("refused_shifts", 32));
+    let mut answers: BTreeMap<u8, usize> = BTreeMap::new();
+    let mut other = vec![];
+    for _ in 0..30_000 {
+        let junction = rich_junction(&mut r);
+        let good = any_plan(&mut r, &junction).to_file();
+        let (file, plan) = match r.from_to(1, 6) {
+            1 => (damaged(&mut r, &junction.to_file()), good.clone()),
+            2 => {
+                let number = r.from_to(1, 9) as u8;
+                (aimed_at(&mut r, number), good.clone())
+            }
+            3 => (junction.to_file(), damaged(&mut r, &good)),
+            4 => (junction.to_file(), faulty(&mut r, &good, &other)),
+            _ => (junction.to_file(), good.clone()),
+        };
+        let cycle = if plan.len() < 5 { 50 } else { two(&plan, 3) as usize };
+        let offset = r.pick(&[0, cycle.saturating_sub(1), cycle, cycle + 1, 65_536, 1 << 32, usize::MAX]);
+        let mut lent = plan.clone();
+        let answer = shift(&file, &mut lent, offset);
+        let wanted = match judge(&file, &plan) {
+            Err(refusal) if refusal.number <= 13 => Err(refusal),
+            _ if offset >= cycle => Err(Refusal { number: 24, place: 0 }),
+            _ => Ok(()),
+        };
+        assert_eq!(answer, wanted, "{offset}");
+        assert!(answer.is_ok() || lent == plan, "{offset} {answer:?}");
+        assert_eq!(judge(&file, &lent), judge(&file, &plan), "{offset}");
+        *answers.entry(answer.err().map_or(0, |e| e.number)).or_default() += 1;
+        other = good;
+    }
+    println!("{answers:?}");
+    for number in (0..=9).chain([11, 12, 13, 24]) {
+        assert!(answers[&number] > 100, "{answers:?}");
     }
 }

@@ -1,4 +1,4 @@
-//! Every example of the readings that concerns the base, and what requests 2026-01 to 2026-05 add to it.
+//! Every example of the readings that concerns the base, and what requests 2026-01 to 2026-06 add to it.
 mod common;
 use common::*;
 use model::annex::need;
@@ -8,7 +8,7 @@ use model::exact::{fraction, Time};
 use model::junction::*;
 use model::times::{entry, leaving, reaching, Entries};
 use model::work_out::{first_length, lost_time, phases, plan_for};
-use model::{delay, judge, meaning, read_junction, read_plan, work_out, Refusal};
+use model::{delay, judge, meaning, read_junction, read_plan, shift, work_out, Refusal};
 use std::ops::Range;
 
 fn reads(text: &str) -> Result<(), Refusal> {
@@ -946,4 +946,162 @@ fn delay_by_flow_and_length() {
         let plan = plan_file(50, &[(by, 35), ((by + 40) % 50, 6)]);
         assert_eq!(delay(&bytes_of(WC), &plan, 1), seconds(600));
     }
+}
+
+// ---- request 2026-06: offsets along a street
+
+/// The whole case with this plan file: what is answered to the offset, and the plan file afterwards.
+fn shifted(plan: &[u8], offset: usize) -> (Result<(), Refusal>, Vec<u8>) {
+    let mut file = plan.to_vec();
+    let answer = shift(&bytes_of(WC), &mut file, offset);
+    (answer, file)
+}
+
+/// The whole case's plan by some offsets, byte for byte.
+#[test]
+fn whole_case_shifted() {
+    let by = |offset| shifted(&bytes_of(WP), offset);
+    for (offset, bytes) in [
+        (0, "11 00 02 00 32 12 00 05 01 00 00 00 23 12 00 05 02 00 28 00 06"),
+        (1, "11 00 02 00 32 12 00 05 01 00 01 00 23 12 00 05 02 00 29 00 06"),
+        (9, "11 00 02 00 32 12 00 05 01 00 09 00 23 12 00 05 02 00 31 00 06"),
+        // 40 + 10 is the cycle
+        (10, "11 00 02 00 32 12 00 05 01 00 0a 00 23 12 00 05 02 00 00 00 06"),
+        (11, "11 00 02 00 32 12 00 05 01 00 0b 00 23 12 00 05 02 00 01 00 06"),
+        (49, "11 00 02 00 32 12 00 05 01 00 31 00 23 12 00 05 02 00 27 00 06"),
+    ] {
+        assert_eq!(by(offset), (Ok(()), bytes_of(bytes)), "{offset}");
+        assert_eq!(judged(bytes), Ok(()), "{offset}");
+    }
+    for offset in 0..50 {
+        assert_eq!(by(offset), (Ok(()), plan_file(50, &[(offset as u16, 35), ((offset as u16 + 40) % 50, 6)])));
+    }
+}
+
+/// 24 where the offset is C or more, place 0, as wide as the offset is: none is cut, and none taken modulo C.
+#[test]
+fn offsets_not_below_the_cycle() {
+    let some = [50, 51, 60, 100, 150, 255, 256, 266, 306, 65_535, 65_536, 65_546, 65_585, 9_999_999];
+    let wide = [(1 << 31) + 10, 1 << 32, (1 << 32) + 10, (1 << 63) + 10, 9_999_999_999_999_999_999, usize::MAX - 49, usize::MAX];
+    for offset in some.into_iter().chain(wide) {
+        assert_eq!(shifted(&bytes_of(WP), offset), (refused(24, 0), bytes_of(WP)), "{offset}");
+    }
+    // cycle 1: 0 is the only offset below it
+    let least = plan_file(1, &[(0, 1), (0, 1)]);
+    assert_eq!(shifted(&least, 0), (Ok(()), least.clone()));
+    for offset in [1, 2, 256, 65_536, 1 << 32] {
+        assert_eq!(shifted(&least, offset), (refused(24, 0), least.clone()), "{offset}");
+    }
+}
+
+/// Sums up to 358, of which those above 255 need more than a byte.
+#[test]
+fn sums_of_start_and_offset() {
+    let by = |cycle, starts: [u16; 2], offset| {
+        let lengths = [cycle, 1];
+        let (answer, file) = shifted(&plan_file(cycle, &[(starts[0], lengths[0]), (starts[1], lengths[1])]), offset);
+        let plan = read_plan(&file, &whole_case()).expect("well-formed");
+        assert_eq!((answer, plan.cycle, plan.green(1).length, plan.green(2).length), (Ok(()), cycle, lengths[0], lengths[1]));
+        [plan.green(1).start, plan.green(2).start]
+    };
+    // 358 and 279
+    assert_eq!(by(180, [179, 100], 179), [178, 99]);
+    // 179 and 180; 180 and 181
+    assert_eq!(by(180, [100, 101], 79), [179, 0]);
+    assert_eq!(by(180, [100, 101], 80), [0, 1]);
+    // 255 and 256; 256 and 257
+    assert_eq!(by(180, [100, 101], 155), [75, 76]);
+    assert_eq!(by(180, [178, 179], 78), [76, 77]);
+    assert_eq!(by(180, [0, 1], 179), [179, 0]);
+    assert_eq!(by(129, [128, 127], 128), [127, 126]);
+    assert_eq!(by(128, [127, 0], 127), [126, 127]);
+    assert_eq!(by(2, [0, 1], 1), [1, 0]);
+}
+
+/// The rules are not asked: a plan that the judge refuses by 15, 16 or 17 is shifted, and is judged alike afterwards.
+#[test]
+fn shifted_and_judged() {
+    let much = Junction { counts: vec![count(1, 1_387)], ..whole_case() };
+    for (junction, cycle, greens, offset, starts, judgement) in [
+        (whole_case(), 50, [(0, 35), (40, 6)], 10, (10, 0), Ok(())),
+        // 39 s after a start that is followed by 35 s of green and an entry of 5 s
+        (whole_case(), 50, [(0, 35), (39, 6)], 11, (11, 0), refused(17, 1)),
+        (whole_case(), 50, [(0, 35), (41, 6)], 9, (9, 0), refused(17, 1)),
+        (whole_case(), 180, [(179, 100), (100, 20)], 179, (178, 99), refused(17, 1)),
+        (whole_case(), 50, [(0, 35), (40, 5)], 10, (10, 0), refused(15, 2)),
+        (whole_case(), 50, [(0, 7), (40, 6)], 49, (49, 39), refused(15, 1)),
+        (whole_case(), 1, [(0, 1), (0, 1)], 0, (0, 0), refused(15, 1)),
+        (much, 50, [(0, 35), (40, 6)], 30, (30, 20), refused(16, 1)),
+    ] {
+        let (file, before) = (junction.to_file(), plan_file(cycle, &greens));
+        let after = plan_file(cycle, &[(starts.0, greens[0].1), (starts.1, greens[1].1)]);
+        let mut lent = before.clone();
+        assert_eq!((shift(&file, &mut lent, offset), &lent), (Ok(()), &after), "{greens:?}");
+        assert_eq!((judge(&file, &before), judge(&file, &after)), (judgement, judgement), "{greens:?}");
+        for plan in [before, after] {
+            let plan = read_plan(&plan, &junction).expect("well-formed");
+            assert_eq!(meaning(&junction, &plan), judgement.is_ok(), "{plan:?}");
+        }
+    }
+}
+
+/// The junction's questions, then the plan's, then 24; the lent bytes are the whole plan file, and a refusal changes none.
+#[test]
+fn questions_of_a_shift() {
+    let files = [
+        (bytes_of("00*16385"), 1, 0),
+        (bytes_of(WC)[..59].to_vec(), 2, 49),
+        (bytes_of(WC)[8..].to_vec(), 3, 0),
+        (bytes_of("01 00 04 00 07 23 28"), 4, 0),
+        (bytes_of("01 00 05 00 07 23 28 00"), 5, 0),
+        (Junction { zones: vec![zone(1, 2, 140, 75, 70, 0); 65], ..whole_case() }.to_file(), 6, 36 + 64 * 13),
+        (Junction { zones: vec![zone(1, 3, 140, 75, 70, 0)], ..whole_case() }.to_file(), 7, 36),
+        (vec![], 8, 0),
+        (Junction { counts: vec![count_in(1, 600, 2)], ..whole_case() }.to_file(), 9, 1),
+    ];
+    let cut = bytes_of(WP)[..20].to_vec();
+    let longer = [bytes_of(WP), vec![0]].concat();
+    let at_the_cycle = plan_file(50, &[(50, 35), (40, 6)]);
+    for offset in [0, 10, 49, 50, 60, 99, 65_546, usize::MAX] {
+        for (file, number, place) in &files {
+            for plan in [&bytes_of(WP), &at_the_cycle, &cut, &vec![]] {
+                let mut lent = plan.clone();
+                assert_eq!((shift(file, &mut lent, offset), &lent), (refused(*number, *place), plan), "{offset}");
+            }
+        }
+        for (plan, number, place) in [
+            (vec![], 12, 0),
+            (bytes_of("11"), 11, 0),
+            (bytes_of(WP)[..5].to_vec(), 12, 5),
+            (cut.clone(), 11, 13),
+            (longer.clone(), 12, 21),
+            (plan_file(50, &[(0, 35)]), 12, 13),
+            (plan_file(50, &[(0, 35), (40, 6), (40, 6)]), 12, 21),
+            (plan_file(0, &[(0, 35), (40, 6)]), 13, 0),
+            (plan_file(181, &[(0, 35), (40, 6)]), 13, 0),
+            (at_the_cycle.clone(), 13, 5),
+            (plan_file(50, &[(0, 35), (50, 6)]), 13, 13),
+            (plan_file(50, &[(0, 35), (40, 0)]), 13, 13),
+            (plan_file(50, &[(0, 51), (40, 6)]), 13, 5),
+        ] {
+            assert_eq!(shifted(&plan, offset), (refused(number, place), plan), "{offset}");
+        }
+    }
+}
+
+/// Every stream's start is moved, and the kind of the stream does not matter.
+#[test]
+fn shifted_in_every_stream() {
+    let walker = walk(2, 70, 200, false);
+    let streams = [car(1, CAR), tram(2, true, 300, 10), walker, cyclist(2), with_island(walker, 60, 20, 40), car(2, CAR)];
+    let junction = junction(&streams, &[], &[count(1, 600), count(6, 600)]);
+    let mut plan = plan_file(50, &[(0, 35), (10, 10), (20, 9), (39, 8), (40, 10), (49, 25)]);
+    assert_eq!(shift(&junction.to_file(), &mut plan, 11), Ok(()));
+    assert_eq!(plan, plan_file(50, &[(11, 35), (21, 10), (31, 9), (0, 8), (1, 10), (10, 25)]));
+    let sixteen: Vec<Stream> = (0..16).map(|i| car(i % 2 + 1, CAR)).collect();
+    let counts: Vec<Count> = (1..=16).map(|s| count(s, 600)).collect();
+    let greens = |offset: u16| (0..16).map(|i| ((i * 11 + offset) % 180, i + 1)).collect::<Vec<_>>();
+    let mut plan = plan_file(180, &greens(0));
+    assert_eq!(shift(&common::junction(&sixteen, &[], &counts).to_file(), &mut plan, 170), Ok(()));
+    assert_eq!(plan, plan_file(180, &greens(170)));
 }

@@ -145,7 +145,7 @@ fn add_word(word: &[u8], file: &mut [u8], size: usize) -> usize
 {
     let star = find(word, 0, b'*');
     let n = add_bytes(&word[0..star], file, size);
-    repeat_last(file, n, decimal(&word[star..]))
+    repeat_last(file, n, at_most(decimal(&word[star..]), 131072))
 }
 
 fn add_bytes(digits: &[u8], file: &mut [u8], size: usize) -> usize
@@ -207,9 +207,9 @@ fn hex(digit: u8) -> u8
     }
 }
 
-// The number that the digits of a text make, 0 where there are none; of one too large, the first digits alone.
+// The number that the digits of a text make, 0 where there are none; of one of more than 19 digits, the first 19 alone.
 fn decimal(text: &[u8]) -> usize
-    ensures { λ r. ⌜ r ≤ 10000005 ⌝ }
+    ensures { λ r. ⌜ r ≤ 10000000000000000005 ⌝ }
 {
     let mut n: usize = 0;
     for i in 0..text.len() {
@@ -219,13 +219,13 @@ fn decimal(text: &[u8]) -> usize
 }
 
 fn with_digit(n: usize, digit: u8) -> usize
-    requires { ⌜ n ≤ 10000005 ⌝ }
-    ensures { λ r. ⌜ r ≤ 10000005 ⌝ }
+    requires { ⌜ n ≤ 10000000000000000005 ⌝ }
+    ensures { λ r. ⌜ r ≤ 10000000000000000005 ⌝ }
 {
     if (digit < b'0') | (digit > b'9') {
         return n;
     }
-    if n < 1000000 {
+    if n < 1000000000000000000 {
         return n * 10 + hex(digit) as usize;
     }
     n

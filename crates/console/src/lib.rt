@@ -8,7 +8,7 @@ use libc::STDOUT_FILENO;
 use limits::MOST_BYTES;
 
 // Room for a junction file and one byte more, so that a longer one is refused by the library; and for as many bytes of a plan file as can
-// matter: later bytes change no answer (plan_judge/specs/Long.antt).
+// matter: later bytes change no answer (specs/Long.antt of plan_judge, delays and offsets).
 pub const JUNCTION_ROOM: usize = MOST_BYTES + 1;
 
 pub const PLAN_ROOM: usize = 65672;

@@ -2,13 +2,12 @@
 use Prim.Native.Nat.{ℕ, _<_}
 use native.Mathlib.Omega.{arith}
 use mathlib.Core.List.{List}
-use mathlib.Core.Path.{_≡_, refl, ap}
+use mathlib.Core.Path.{_≡_, ap}
 use lib.ListN.{take}
 use lib.Seq.{take-all}
 use Rattle.fields.specs.Bytes.{byteAt}
 use Rattle.fields.specs.Verdict.{both-passed}
-use Rattle.fields.specs.declared.Verdict.{Verdict}
-use Rattle.fields.specs.declared.Verdict.the-variants.{Passed, Refused}
+use Rattle.fields.specs.declared.Verdict.the-variants.{Passed}
 use Rattle.junction_file.specs.Reading.{reading}
 use Rattle.junction_file.specs.TakenFile.{taken}
 use Rattle.plan_file.specs.lemmas.Long.{enough}
@@ -16,15 +15,8 @@ use Rattle.plan_file.specs.Plans.{planVerdict, planOf}
 use Rattle.plan_file.specs.WellFormed.{well-formed}
 use Rattle.plan_judge.specs.Judgement.{planJudgement, judgement}
 use Rattle.plan_judge.specs.Long.{enoughJunction, junction-read, enough-read}
-use Rattle.delays.specs.Answer.{streamFigures, told, unless, delayVerdict, answer}
-use Rattle.delays.specs.Refused.{verdict-passed}
-use Rattle.delays.specs.declared.Delayed.{Delayed}
-
--- where something is refused, what would be told has no part in the answer
-unless-same : (v : Verdict) (x y : Delayed) → (v ≡ Passed → x ≡ y) → unless v x ≡ unless v y
-unfolding unless
-unless-same Passed x y same = same refl
-unless-same (Refused number place) x y same = refl
+use Rattle.delays.specs.Answer.{streamFigures, told, delayVerdict, answer}
+use Rattle.delays.specs.Refused.{unless-same, verdict-passed}
 
 -- an accepted plan's file is read whole
 plan-whole : (junction plan : List ℕ) → judgement junction plan ≡ Passed → take enough plan ≡ plan

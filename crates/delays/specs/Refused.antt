@@ -17,6 +17,7 @@ use Rattle.plan_judge.specs.Judgement.{judgement}
 use Rattle.plan_judge.specs.Numbers.{judgement-numbered}
 use Rattle.service_level.specs.declared.DelayFigures.{DelayFigures}
 use Rattle.delays.specs.Answer.{carAsked, streamFigures, told, unless, delayVerdict, answer, refusal, refusedAt}
+use Rattle.delays.specs.declared.Delayed.{Delayed}
 use Rattle.delays.specs.declared.Delayed.the-variants as delayed
 
 -- the verdict's number and place
@@ -24,6 +25,12 @@ pub unless-number : (v : Verdict) (f : DelayFigures) → (refusal (unless v (tol
 unfolding unless told refusal refusedAt
 unless-number Passed f = (refl, refl)
 unless-number (Refused number place) f = (refl, refl)
+
+-- where something is refused, what would be told has no part in the answer
+pub unless-same : (v : Verdict) (x y : Delayed) → (v ≡ Passed → x ≡ y) → unless v x ≡ unless v y
+unfolding unless
+unless-same Passed x y same = same refl
+unless-same (Refused number place) x y same = refl
 
 module _ (junction plan : List ℕ) (n : ℕ) where
   asked-numbered : Numbered (carAsked (reading junction .junction) n)

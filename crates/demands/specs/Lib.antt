@@ -5,6 +5,7 @@ pub mod Figures
 pub mod Files
 pub mod FirstDemand
 pub mod Islands
+pub mod Offsets
 pub mod OneDirection
 pub mod OtherPeriods
 pub mod Places

@@ -1,5 +1,5 @@
 -- Counts of other periods have no effect, over files (document 02, 2026-04): two junction files that are taken and differ in counts of other
--- periods alone get the same flows, verdicts, plans and figures.
+-- periods alone get the same flows, verdicts, plans, delays, shifts and figures.
 --
 -- `JunctionFile` says of a file that it is taken, with so many streams, zones and counts (`taken-exactly`); `OnlyOtherPeriods` that the two
 -- agree in design day, period, streams, zones and the counts of that period.
@@ -22,7 +22,8 @@ use Rattle.plan_judge.specs.Judgement.{judgement}
 use Rattle.plan_file.specs.Plans.{planOf}
 use Rattle.delays.specs.Answer.{carAsked, delayVerdict, answer}
 use Rattle.planner.specs.WorkingOut.{worked, buffer}
-use Rattle.givendra.specs.Answers.{judgeAnswer, planAnswer, junctionAnswer, intergreenVerdict, intergreenAnswer, needVerdict, needAnswer, carVerdict, saturationAnswer, ratioAnswer, delayAnswer}
+use Rattle.offsets.specs.Shifting.{shiftVerdict, shiftedPlan}
+use Rattle.givendra.specs.Answers.{judgeAnswer, shiftAnswer, planAnswer, junctionAnswer, intergreenVerdict, intergreenAnswer, needVerdict, needAnswer, carVerdict, saturationAnswer, ratioAnswer, delayAnswer}
 use Rattle.demands.specs.lemmas.Recounted.{recounted, flow-same, entry-same, need-same, saturation-same, ratio-same, judged-same, figures-same, worked-same, buffer-same}
 
 pub record SameAnswers (s t : List ℕ) : Type 0 where
@@ -31,9 +32,12 @@ pub record SameAnswers (s t : List ℕ) : Type 0 where
   pub plans : (size : ℕ) → worked s size ≡ worked t size
   pub buffers : (lent : List ℕ) → buffer s lent ≡ buffer t lent
   pub delays : (plan : List ℕ) (n : ℕ) → answer s plan n ≡ answer t plan n
+  pub shifts : (plan : List ℕ) (offset : ℕ) → shiftVerdict s plan offset ≡ shiftVerdict t plan offset
+  pub shiftedPlans : (plan : List ℕ) (offset : ℕ) → shiftedPlan s plan offset ≡ shiftedPlan t plan offset
   -- and from the C library
   pub c-verdicts : (plan : List ℕ) → judgeAnswer s plan ≡ judgeAnswer t plan
   pub c-delays : (plan : List ℕ) (n : ℕ) → delayAnswer s plan n ≡ delayAnswer t plan n
+  pub c-shifts : (plan : List ℕ) (offset : ℕ) → shiftAnswer s plan offset ≡ shiftAnswer t plan offset
   pub c-plans : (size : ℕ) → planAnswer s size ≡ planAnswer t size
   pub intergreens : (from to : ℕ) → intergreenAnswer s from to ≡ intergreenAnswer t from to
   pub needs : (n cycle : ℕ) → needAnswer s n cycle ≡ needAnswer t n cycle
@@ -61,7 +65,7 @@ module _ (s t : List ℕ) (one : reading s .verdict ≡ Passed) (two : reading t
     delay-same plan n = rw (one, two, is, judged-same j last many counts same plan, figures-same j last many counts same (planOf plan) n)
 
     same-answers : SameAnswers s t
-    unfolding judgement worked buffer judgeAnswer planAnswer delayAnswer junctionAnswer intergreenAnswer intergreenVerdict needAnswer needVerdict saturationAnswer ratioAnswer carVerdict exists countRefers streamNumbered streamAt
+    unfolding judgement worked buffer shiftVerdict shiftedPlan judgeAnswer shiftAnswer planAnswer delayAnswer junctionAnswer intergreenAnswer intergreenVerdict needAnswer needVerdict saturationAnswer ratioAnswer carVerdict exists countRefers streamNumbered streamAt
     same-answers =
         record {
           flows = λ n. rw is (sym (flow-same j last many counts same n));
@@ -69,8 +73,11 @@ module _ (s t : List ℕ) (one : reading s .verdict ≡ Passed) (two : reading t
           plans = λ size. rw (one, two, is, worked-same j last many counts same size);
           buffers = λ lent. rw (one, two, is, buffer-same j last many counts same lent);
           delays = delay-same;
+          shifts = λ plan offset. rw (one, two, is);
+          shiftedPlans = λ plan offset. rw (one, two, is);
           c-verdicts = λ plan. rw (one, two, is, judged-same j last many counts same plan);
           c-delays = λ plan n. rw (delay-same plan n);
+          c-shifts = λ plan offset. rw (one, two, is);
           c-plans = λ size. rw (one, two, is, worked-same j last many counts same size);
           intergreens = λ from to. rw (one, two, is, entry-same j last many counts same from to);
           needs = λ n cycle. rw (one, two, is, need-same j last many counts same n cycle);

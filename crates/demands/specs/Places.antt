@@ -1,4 +1,4 @@
--- The numbers that document 01 lists for each entry over files, each with the places that it can have; and those of the C library's figures.
+-- The numbers that documents 01 and 02 list for each entry over files, each with the places that it can have; and those of the C library's figures.
 use Prim.Native.Nat.{ℕ, _≤_, _<_}
 use mathlib.Core.List.{List}
 use lib.ListN.{length}
@@ -40,6 +40,12 @@ pub data JudgePlace (junction plan : List ℕ) : ℕ → ℕ → Type 0 where
 pub data DelayPlace (junction plan : List ℕ) (asked : ℕ) : ℕ → ℕ → Type 0 where
   of-judge : {n p : ℕ} → JudgePlace junction plan n p → DelayPlace junction plan asked n p
   no-car : DelayPlace junction plan asked 9 asked
+
+-- a shift's (document 02, 2026-06): a junction's, a plan's, or 24 at 0
+pub data ShiftPlace (junction plan : List ℕ) : ℕ → ℕ → Type 0 where
+  of-junction : {n p : ℕ} → JunctionPlace (length junction) (reading junction .junction .held .streams) n p → ShiftPlace junction plan n p
+  of-plan : {n p : ℕ} → PlanPlace (length plan) n p → ShiftPlace junction plan n p
+  not-below : ShiftPlace junction plan 24 0
 
 -- the planner's: a junction's, or the calculation's
 pub data WorkPlace (junction : List ℕ) : ℕ → ℕ → Type 0 where

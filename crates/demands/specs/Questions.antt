@@ -105,6 +105,11 @@ judgeAsked junction plan =
 abbrev pub delayAsked : List ℕ → List ℕ → ℕ → List Question
 delayAsked junction plan n = judgeAsked junction plan ++ (question 9 n (countRefers (reading junction .junction) n) ∷ [])
 
+-- a shift's (document 02, 2026-06): after the plan's, and without the rules, 24 at 0, is the offset below C?
+abbrev pub shiftAsked : List ℕ → List ℕ → ℕ → List Question
+shiftAsked junction plan offset =
+    junctionAsked junction ++ (planAsked plan (reading junction .junction .held .streams) ++ (question 24 0 (ltb offset (numberAt plan 3)) ∷ []))
+
 abbrev pub workAsked : List ℕ → ℕ → List Question
 workAsked junction size = junctionAsked junction ++ calculationAsked (reading junction .junction) size
 

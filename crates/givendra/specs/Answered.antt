@@ -1,11 +1,12 @@
 -- What the C library's numbers say: refusal 0 exactly where nothing is refused, and the figure itself then; every other number 0 where
 -- something is refused.
-use Prim.Native.Nat.{ℕ}
+use Prim.Native.Nat.{ℕ, _<_}
 use native.Mathlib.Omega.{arith}
 use mathlib.Core.Bool.{Bool, true}
 use mathlib.Core.List.{List}
 use mathlib.Core.Logic.{_↔_}
 use mathlib.Core.Path.{_≡_, refl}
+use Rattle.fields.specs.Bytes.{numberAt}
 use Rattle.fields.specs.lemmas.Numbers.{Numbered, ask-numbered, first-numbered, passed-number}
 use Rattle.fields.specs.Verdict.{isRefused, ask, ask-passed, firstRefusal, both-passed}
 use Rattle.fields.specs.declared.Verdict.{Verdict}
@@ -14,9 +15,10 @@ use Rattle.junction_questions.specs.Questions.{countRefers}
 use Rattle.junction_places.specs.Places.{exists}
 use Rattle.junction_file.specs.Numbers.{reading-numbered}
 use Rattle.junction_file.specs.Reading.{reading}
-use Rattle.plan_file.specs.Plans.{cycleInRange}
+use Rattle.plan_file.specs.Plans.{cycleInRange, planVerdict}
 use Rattle.plan_judge.specs.Judgement.{judgement}
 use Rattle.plan_judge.specs.Numbers.{number-accepted}
+use Rattle.offsets.specs.Refused.{shift-passed, shift-number}
 use Rattle.junction_figures.specs.Figures.{pairEntry, streamNeed, streamSaturation, streamRatio}
 use Rattle.givendra.specs.Answers.{figure, intergreenVerdict, needVerdict, carVerdict}
 use Rattle.service_level.specs.Delays.{whole}
@@ -24,12 +26,24 @@ use Rattle.delays.specs.Answer.{answer, refusal, toldOutcome, toldValue, toldLe
 use Rattle.delays.specs.Refused.{delay-refused}
 use Rattle.delays.specs.declared.Delayed.{Delayed}
 use Rattle.delays.specs.declared.Delayed.the-variants as delayed
-use Rattle.givendra.specs.Answers.{judgeAnswer, intergreenAnswer, needAnswer, saturationAnswer, ratioAnswer, delayAnswer}
+use Rattle.givendra.specs.Answers.{answerOf, judgeAnswer, shiftAnswer, intergreenAnswer, needAnswer, saturationAnswer, ratioAnswer, delayAnswer}
 
 -- the plan is accepted exactly where the judge's refusal is 0
 pub judge-accepts : (junction plan : List ℕ) → (judgeAnswer junction plan .refusal ≡ 0) ↔ (judgement junction plan ≡ Passed)
-unfolding judgeAnswer
+unfolding judgeAnswer answerOf
 judge-accepts junction plan = number-accepted junction plan
+
+-- the starts are moved exactly where the file is taken, the plan well-formed for it and the offset below its cycle
+module _ (junction plan : List ℕ) (offset : ℕ) where
+  pub shift-told : (shiftAnswer junction plan offset .refusal ≡ 0)
+      ↔ ((reading junction .verdict ≡ Passed) × (planVerdict plan (reading junction .junction .held .streams) ≡ Passed) × (offset < numberAt plan 3))
+  unfolding shiftAnswer answerOf
+  shift-told =
+      let number = shift-number junction plan offset in
+      let passed = shift-passed junction plan offset in (
+        λ e. passed .0 (number .0 e),
+        λ h. number .1 (passed .1 h),
+      )
 
 asked : (answer : Bool) (number place : ℕ) (later : Verdict) → (ask answer number place later ≡ Passed) ↔ ((answer ≡ true) × (later ≡ Passed))
 asked answer number place later = (ask-passed answer number place later, λ both. rw (both .0) (both .1))

@@ -12,6 +12,7 @@ use Rattle.junction_file.specs.Reading.{reading}
 use Rattle.junction_figures.specs.Figures.{pairEntry, streamNeed, streamSaturation, streamRatio}
 use Rattle.plan_file.specs.Plans.{cycleInRange}
 use Rattle.plan_judge.specs.Judgement.{judgement}
+use Rattle.offsets.specs.Shifting.{shiftVerdict}
 use Rattle.planner.specs.WorkingOut.{worked}
 use Rattle.service_level.specs.Delays.{outcome, value, letter}
 use Rattle.service_level.specs.declared.Service.{Service}
@@ -27,9 +28,17 @@ use Rattle.givendra.specs.declared.DelayAnswer.{DelayAnswer}
 abbrev pub release : ℕ
 release = 2
 
+-- a verdict's number and place
+unfoldable pub answerOf : Verdict → JudgeAnswer
+answerOf v = record { place = placeOf v; refusal = numberOf v }
+
 -- the judge's verdict
 unfoldable pub judgeAnswer : List ℕ → List ℕ → JudgeAnswer
-judgeAnswer junction plan = record { place = placeOf (judgement junction plan); refusal = numberOf (judgement junction plan) }
+judgeAnswer junction plan = answerOf (judgement junction plan)
+
+-- the verdict on a shift (document 02, 2026-06)
+unfoldable pub shiftAnswer : List ℕ → List ℕ → ℕ → JudgeAnswer
+shiftAnswer junction plan offset = answerOf (shiftVerdict junction plan offset)
 
 -- what is worked out, with a buffer of so many bytes
 unfoldable pub planAnswer : List ℕ → ℕ → PlanAnswer

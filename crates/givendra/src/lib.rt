@@ -3,9 +3,10 @@
 ghost use mathlib.Core.Path.{_≡_};
 ghost use Prim.Native.Nat.{max};
 ghost use lib.ListN.{length};
+ghost use Rattle.offsets.specs.Shifting.{shiftedPlan};
 ghost use Rattle.planner.specs.WorkingOut.{buffer as bufferAfter};
-ghost use Rattle.givendra.specs.Answers.{release, judgeAnswer, planAnswer, junctionAnswer, figure as figureOf, intergreenVerdict, intergreenAnswer, needVerdict, needAnswer, carVerdict, saturationAnswer, ratioAnswer};
-ghost use Rattle.givendra.specs.Answers.{toldAnswer, delayAnswer};
+ghost use Rattle.givendra.specs.Answers.{release, answerOf, judgeAnswer, planAnswer, junctionAnswer, figure as figureOf, intergreenVerdict, intergreenAnswer, needVerdict, needAnswer, carVerdict, saturationAnswer, ratioAnswer};
+ghost use Rattle.givendra.specs.Answers.{toldAnswer, delayAnswer, shiftAnswer};
 ghost use Rattle.givendra.specs.LentList.{wanted, recordRank, newestAnswer, newestFigure};
 use counts::Count;
 use counts::Wanted;
@@ -16,7 +17,7 @@ use junction::Junction;
 use service_level::Level;
 use service_level::Service;
 
-// A judge's answer.
+// A refusal's place and number, 0 and 0 where nothing is refused: the judge's answer, and that of a shift.
 #[repr(C)]
 pub struct JudgeAnswer {
     pub place: usize,
@@ -76,8 +77,13 @@ pub extern "C" fn givendra_release() -> u32
 pub extern "C" fn givendra_judge(junction: &[u8], plan: &[u8]) -> JudgeAnswer
     ensures { λ r. ⌜ r ≡ judgeAnswer (now (junction .entry)) (now (plan .entry)) ⌝ }
 {
-    let verdict = plan_judge::judge(junction, plan);
-    match verdict {
+    answer_of(plan_judge::judge(junction, plan))
+}
+
+fn answer_of(v: Verdict) -> JudgeAnswer
+    ensures { λ r. ⌜ r ≡ answerOf v ⌝ }
+{
+    match v {
         Verdict::Passed => JudgeAnswer {
             place: 0,
             refusal: 0,
@@ -87,6 +93,15 @@ pub extern "C" fn givendra_judge(junction: &[u8], plan: &[u8]) -> JudgeAnswer
             refusal: number,
         },
     }
+}
+
+// Adds an offset in seconds to every start of the lent plan file, modulo its cycle.
+#[no_mangle]
+pub extern "C" fn givendra_shift(junction: &[u8], plan: &mut [u8], offset: usize) -> JudgeAnswer
+    ensures result { λ r. ⌜ r ≡ shiftAnswer (now (junction .entry)) (now (plan .entry)) offset ⌝ }
+    ensures lent { λ _. ⌜ now (plan .exit) ≡ shiftedPlan (now (junction .entry)) (now (plan .entry)) offset ⌝ }
+{
+    answer_of(offsets::shift(junction, plan, offset))
 }
 
 // Works out a plan for a junction file, and writes its plan file into the lent buffer.

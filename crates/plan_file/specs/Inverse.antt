@@ -20,7 +20,7 @@ use Rattle.plan_file.specs.lemmas.Bytes.{cycleByte, greenByte, planByte,
 use Rattle.plan_file.specs.declared.Plan.{Plan}
 
 -- a number is its two bytes
-two-bytes : (n : ℕ) → n / 256 * 256 + n % 256 ≡ n
+pub two-bytes : (n : ℕ) → n / 256 * 256 + n % 256 ≡ n
 two-bytes n = omega arith
 
 -- the byte at place r of field 12 of the stream with number i + 1

@@ -278,13 +278,13 @@ fn green_byte(g: Green, n: usize, k: usize) -> u8
     low(g.length)
 }
 
-fn high(n: u16) -> u8
+pub fn high(n: u16) -> u8
     ensures { λ r. ⌜ r ≡ n / 256 ⌝ }
 {
     (n / 256) as u8
 }
 
-fn low(n: u16) -> u8
+pub fn low(n: u16) -> u8
     ensures { λ r. ⌜ r ≡ n % 256 ⌝ }
 {
     (n % 256) as u8

@@ -6,6 +6,8 @@
 //     judge LABEL: BYTES        a plan file for the last junction file given: `accepted`, or `refused`, number and place
 //     delay LABEL: STREAM BYTES a stream's number and a plan file for the last junction file given: `delay` or `saturation` with the value's 64
 //                               bits, or `no red`, and the level of service; or `refused`, number and place
+//     shift LABEL: OFFSET BYTES an offset and a plan file for the last junction file given: `shifted` and every byte of the lent file afterwards; or
+//                               `refused`, number and place, then `kept` where every byte, in the file and behind it, is what it was before
 //     plan LABEL: SIZE BYTES    a lent buffer's size and a junction file: the cycle, the lengths tried and the plan file's bytes, or `refused`,
 //                               number and place; then `kept` where every other byte, in the buffer and behind it, is what it was before
 //     junction: BYTES           gives the junction file for the plan files after it, and prints nothing
@@ -28,7 +30,7 @@ use service_level::Service;
 const BEFORE: u8 = 0xa5;
 
 // The greatest number that a case gives.
-const MOST_NUMBER: usize = 9999999;
+const MOST_NUMBER: usize = 9999999999999999999;
 
 // What is told of a junction file.
 struct Report {
@@ -82,7 +84,10 @@ fn answer(line: &[u8], junction: &[u8]) {
     if case_text::begins(line, b"read ") {
         return read(line);
     }
-    if case_text::begins(line, b"judge ") | case_text::begins(line, b"delay ") {
+    if case_text::begins(line, b"judge ")
+        | case_text::begins(line, b"delay ")
+        | case_text::begins(line, b"shift ")
+    {
         return plan_case(junction, line);
     }
     if case_text::begins(line, b"plan ") {
@@ -135,11 +140,17 @@ fn tell_report(report: Report) {
 fn plan_case(junction_line: &[u8], line: &[u8]) {
     let mut junction = case_text::file();
     let size = case_text::fill(junction_line, &mut junction);
+    plan_answer(&junction[0..size], line);
+}
+
+fn plan_answer(junction: &[u8], line: &[u8]) {
     if case_text::begins(line, b"judge ") {
-        judge(&junction[0..size], line);
-    } else {
-        delay(&junction[0..size], line);
+        return judge(junction, line);
     }
+    if case_text::begins(line, b"delay ") {
+        return delay(junction, line);
+    }
+    shift(junction, line);
 }
 
 fn judge(junction: &[u8], line: &[u8]) {
@@ -190,6 +201,28 @@ fn bits(x: f64) -> u64 {
     0
 }
 
+fn shift(junction: &[u8], line: &[u8]) {
+    let mut plan = case_text::file();
+    let size = case_text::fill_after_number(line, &mut plan);
+    let offset = case_text::number(line, MOST_NUMBER);
+    let verdict = shift_lent(junction, size, &mut plan, offset);
+    if passed(verdict) {
+        put(b" shifted ");
+        case_text::put_bytes(&plan[0..size]);
+    } else {
+        let mut before = case_text::file();
+        case_text::fill_after_number(line, &mut before);
+        tell_kept(case_text::begins(&before, &plan));
+    }
+}
+
+// The first bytes of the file are lent on.
+fn shift_lent(junction: &[u8], size: usize, plan: &mut [u8], offset: usize) -> Verdict
+    requires { ⌜ size ≤ length (now plan) ⌝ }
+{
+    offsets::shift(junction, &mut plan[0..size], offset)
+}
+
 fn plan(line: &[u8]) {
     let mut junction = case_text::file();
     let size = case_text::fill_after_number(line, &mut junction);
@@ -203,7 +236,7 @@ fn work_out(junction: &[u8], room: usize)
     let worked = lend(junction, room, &mut out);
     let size = tell_worked(worked);
     case_text::put_bytes(&out[0..size]);
-    tell_kept(&out[size..]);
+    tell_kept(case_text::begins(&[BEFORE; 300], &out[size..]));
 }
 
 // The first bytes of the buffer are lent on.
@@ -235,8 +268,8 @@ fn within(size: usize) -> usize
     if size <= 300 { size } else { 0 }
 }
 
-fn tell_kept(rest: &[u8]) {
-    if case_text::begins(&[BEFORE; 300], rest) {
+fn tell_kept(kept: bool) {
+    if kept {
         put(b" kept");
     } else {
         put(b" spoilt");

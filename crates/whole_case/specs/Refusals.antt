@@ -1,5 +1,5 @@
--- A file, or a pair of files, for every number that document 01 lists, from 2 to 23, with its place; one table with one proof for the judge, and
--- each refusal of the calculation. 1 is of files longer than 16,384 bytes, which the first demand has for all of them.
+-- A file, or a pair of files, for every number that documents 01 and 02 list, from 2 to 24, with its place; one table with one proof for the judge,
+-- and each refusal of the calculation and of the shift. 1 is of files longer than 16,384 bytes, which the first demand has for all of them.
 use Prim.Native.Nat.{ℕ, zero, suc}
 use mathlib.Core.List.{List, [], _∷_, _++_, map}
 use mathlib.Core.Path.{_≡_, refl}
@@ -9,9 +9,10 @@ use Rattle.fields.specs.declared.Verdict.the-variants.{Refused}
 use Rattle.plan_judge.specs.Judgement.{judgement}
 use Rattle.cycle_search.specs.Planning.{firstTried}
 use Rattle.junction_file.specs.Reading.{reading}
+use Rattle.offsets.specs.Shifting.{shiftVerdict, shiftedPlan}
 use Rattle.planner.specs.WorkingOut.{worked}
 use Rattle.whole_case.specs.Fields.{headingFor, heading, car, pedestrian, island, ofKind, cyclist, zone, countFor, count, cycle11, green12}
-use Rattle.whole_case.specs.WholeCase.{WC, WI, WP, WT, planFrom, toJudge, toPlan}
+use Rattle.whole_case.specs.WholeCase.{WC, WI, WP, WT, planFrom, toJudge, toShift, toPlan}
 
 record Case : Type 0 where
   junction : List ℕ
@@ -106,6 +107,24 @@ refused-22 = refl
 refused-23 : worked WC 20 ≡ record { verdict = Refused 23 0; cycle = 0; tried = 0; size = 0 }
 unfolding toPlan
 refused-23 = refl
+
+-- an offset of the cycle, and one that 16 bits would cut to 10; no byte is altered
+refused-24 : shiftVerdict WC WP 50 ≡ Refused 24 0
+unfolding toShift
+refused-24 = refl
+
+refused-65546 : shiftVerdict WC WP 65546 ≡ Refused 24 0
+unfolding toShift
+refused-65546 = refl
+
+kept-65546 : shiftedPlan WC WP 65546 ≡ WP
+unfolding toShift
+kept-65546 = refl
+
+-- a start of 50 is asked before the offset
+refused-13-first : shiftVerdict WC (planFrom 50) 99 ≡ Refused 13 13
+unfolding toShift
+refused-13-first = refl
 
 -- two cars that conflict over 999 dm in phases 1 and 3, with a cyclist's phase after each: no neighbouring phases conflict
 farApart : List ℕ

@@ -28,6 +28,7 @@ use Rattle.plan_judge.specs.Judgement.{planJudgement, judgement}
 use Rattle.phase_lengths.specs.Phases.{lostTime}
 use Rattle.junction_phases.specs.JunctionPhases.{isIn, carIn, hasCars, phaseRatio, phaseNeed, phaseCount, hasPedestrianOrTram, nextPhase, entryBetween, phaseEntry, intergreen, phaseAt, phasesAt}
 use Rattle.cycle_search.specs.Planning.{ratios, firstTried, phaseGreen, planAt, outcome, works, cycleFrom, cycle, found}
+use Rattle.offsets.specs.Shifting.{moved, startPlace, withNumber, shifted, fileVerdict, shiftVerdict, shiftedPlan}
 use Rattle.planner.specs.WorkingOut.{calculation, junctionVerdict, junctionWorked, junctionBuffer, worked, buffer}
 use Rattle.delays.specs.Answer.{carAsked, streamFigures, told, unless, delayVerdict, answer, refusal, refusedAt, toldOutcome, toldValue, toldLetter}
 use Rattle.delays.specs.declared.Delayed.the-variants as delayed
@@ -139,6 +140,28 @@ delay-of-no-stream = refl
 delay-too-early : answer WC (planFrom 39) 257 ≡ delayed.Refused 17 1
 unfolding toDelay
 delay-too-early = refl
+
+-- shifted by 10 (document 02, 2026-06): the starts 0 and 40 become 10 and 0, since 40 + 10 is the cycle; and by 49 they become 49 and 39
+unfoldable pub toShift : Unit {0}
+unfolding toJudge moved startPlace withNumber shifted fileVerdict shiftVerdict shiftedPlan
+toShift = tt
+
+shift-passed : shiftVerdict WC WP 10 ≡ Passed
+unfolding toShift
+shift-passed = refl
+
+shifted-by-10 : shiftedPlan WC WP 10 ≡ 17 ∷ 0 ∷ 2 ∷ 0 ∷ 50 ∷ 18 ∷ 0 ∷ 5 ∷ 1 ∷ 0 ∷ 10 ∷ 0 ∷ 35 ∷ 18 ∷ 0 ∷ 5 ∷ 2 ∷ 0 ∷ 0 ∷ 0 ∷ 6 ∷ []
+unfolding toShift
+shifted-by-10 = refl
+
+shifted-by-49 : shiftedPlan WC WP 49 ≡ 17 ∷ 0 ∷ 2 ∷ 0 ∷ 50 ∷ 18 ∷ 0 ∷ 5 ∷ 1 ∷ 0 ∷ 49 ∷ 0 ∷ 35 ∷ 18 ∷ 0 ∷ 5 ∷ 2 ∷ 0 ∷ 39 ∷ 0 ∷ 6 ∷ []
+unfolding toShift
+shifted-by-49 = refl
+
+-- a plan that the judge refuses is shifted too
+early-shifted : shiftedPlan WC (planFrom 39) 11 ≡ 17 ∷ 0 ∷ 2 ∷ 0 ∷ 50 ∷ 18 ∷ 0 ∷ 5 ∷ 1 ∷ 0 ∷ 11 ∷ 0 ∷ 35 ∷ 18 ∷ 0 ∷ 5 ∷ 2 ∷ 0 ∷ 0 ∷ 0 ∷ 6 ∷ []
+unfolding toShift
+early-shifted = refl
 
 unfoldable pub toPlan : Unit {0}
 unfolding toJudge toPhases cycleField greenField greenFields planFile planSize hasRoom written

@@ -92,6 +92,15 @@ pub fn delay(junction: &Lent, plan: &Lent, stream: usize) -> DelayBits {
     DelayBits::of(answer)
 }
 
+/// The plan file is lent to be changed: it may differ afterwards, but not what stands around it.
+pub fn shift(junction: &Lent, plan: &mut Lent, offset: usize) -> JudgeAnswer {
+    let (pointer, length) = (plan.pointer_to_write(), plan.length());
+    let answer = unsafe { givendra_shift(junction.pointer(), junction.length(), pointer, length, offset) };
+    assert_lent("shift", &[junction]);
+    assert!(plan.neighbours_as_lent(), "shift by {offset} wrote outside the plan file\njunction {}", text_of(junction.bytes()));
+    answer
+}
+
 pub fn work_out(junction: &Lent, buffer: &mut Lent) -> PlanAnswer {
     let (pointer, length) = (buffer.pointer_to_write(), buffer.length());
     let answer = unsafe { givendra_work_out(junction.pointer(), junction.length(), pointer, length) };

@@ -6,7 +6,7 @@ use Rattle.case_text.proofs.decimal.Statement.{statement}
 use Rattle.case_text.proofs.decimal.Tie as tie
 
 abbrev Inv-loop : tie.InvT-loop
-Inv-loop text n₀ i₀ i-end n i = (i-end ≤ length text) × (n ≤ 10000005)
+Inv-loop text n₀ i₀ i-end n i = (i-end ≤ length text) × (n ≤ 10000000000000000005)
 
 abbrev μ-loop : tie.MeasureT-loop
 μ-loop text n₀ i₀ i-end n i = i-end - i

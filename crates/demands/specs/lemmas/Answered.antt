@@ -70,7 +70,7 @@ greens-answer (suc streams) s at n =
     let later = greens-answer streams s (fieldEnd s at) (n + 1) in
     answer-append (dueAsked s at (greenExpected s at n) (greenInRange s at)) _ ∙ rw (due-answer s at (greenExpected s at n) (greenInRange s at), later)
 
-plan-answer : (s : List ℕ) (streams : ℕ) → answer (planAsked s streams) ≡ planVerdict s streams
+pub plan-answer : (s : List ℕ) (streams : ℕ) → answer (planAsked s streams) ≡ planVerdict s streams
 unfolding planAsked planVerdict cycleVerdict
 plan-answer s streams =
     answer-append (dueAsked s 0 (cycleExpected s) (cycleInRange (numberAt s 3))) _

@@ -18,15 +18,17 @@ use Rattle.planner.specs.WorkingOut.{worked, buffer}
 use Rattle.plan_file.specs.Plans.{planOf}
 use Rattle.delays.specs.Answer.{streamFigures, delayVerdict, answer as delayed}
 use Rattle.delays.specs.Refused.{unless-number}
-use Rattle.givendra.specs.Answers.{judgeAnswer, planAnswer, junctionAnswer, figure, intergreenAnswer, needAnswer, saturationAnswer, ratioAnswer, delayAnswer}
+use Rattle.offsets.specs.Refused.{shift-unaltered}
+use Rattle.offsets.specs.Shifting.{shiftVerdict, shiftedPlan}
+use Rattle.givendra.specs.Answers.{answerOf, judgeAnswer, shiftAnswer, planAnswer, junctionAnswer, figure, intergreenAnswer, needAnswer, saturationAnswer, ratioAnswer, delayAnswer}
 use Rattle.givendra.specs.LentList.{newestAnswer, newestFigure}
 use Rattle.givendra.specs.declared.CountRecord.{CountRecord}
 use Rattle.demands.specs.Asked.{Question, answer, answer-refused, answer-passed, Answers, AnswersBy}
-use Rattle.demands.specs.Places.{JunctionPlace, JudgePlace, DelayPlace, WorkPlace, FigurePlace, ListPlace}
-use Rattle.demands.specs.Questions.{junctionAsked, judgeAsked, delayAsked, workAsked, intergreenAsked, needAsked, carAsked, listAsked}
+use Rattle.demands.specs.Places.{JunctionPlace, JudgePlace, DelayPlace, ShiftPlace, WorkPlace, FigurePlace, ListPlace}
+use Rattle.demands.specs.Questions.{junctionAsked, judgeAsked, delayAsked, shiftAsked, workAsked, intergreenAsked, needAsked, carAsked, listAsked}
 use Rattle.demands.specs.lemmas.Answered.{read-answer, judge-answer, work-answer}
-use Rattle.demands.specs.lemmas.Library.{said-is, junction-some, judge-some, delay-some, work-some, figure-some, list-some}
-use Rattle.demands.specs.lemmas.Library.{delay-answer, delay-told, intergreen-answer, need-answer, car-answer, list-answer, intergreen-told, need-told, car-told, list-told}
+use Rattle.demands.specs.lemmas.Library.{said-is, junction-some, judge-some, delay-some, shift-some, work-some, figure-some, list-some}
+use Rattle.demands.specs.lemmas.Library.{delay-answer, delay-told, shift-answer, shift-told, intergreen-answer, need-answer, car-answer, list-answer, intergreen-told, need-told, car-told, list-told}
 use Rattle.demands.specs.lemmas.Told.{Told, told-more, junction-told, judge-told, work-told}
 
 pub answers : (v : Verdict) (asked : List Question) (Listed : ℕ → ℕ → Type 0) → v ≡ answer asked → Told Listed v → Answers v asked Listed
@@ -62,13 +64,22 @@ delay-holds junction plan n =
     let is = unless-number v (streamFigures (reading junction .junction) (planOf plan) n) in
     rw (is .0, is .1) (answers-by v _ _ delay-some (delay-answer junction plan n) (delay-told junction plan n))
 
+module _ (junction plan : List ℕ) (offset : ℕ) where
+  pub c-shift-holds : AnswersBy (shiftAnswer junction plan offset .refusal) (shiftAnswer junction plan offset .place) (shiftAsked junction plan offset) (ShiftPlace junction plan)
+  unfolding shiftAnswer answerOf
+  c-shift-holds = answers-by _ _ _ shift-some (shift-answer junction plan offset) (shift-told junction plan offset)
+
+  pub c-shift-kept : 1 ≤ shiftAnswer junction plan offset .refusal → shiftedPlan junction plan offset ≡ plan
+  unfolding shiftAnswer answerOf
+  c-shift-kept some = shift-unaltered junction plan offset (numbered-refused (shiftVerdict junction plan offset) some)
+
 module _ (junction : List ℕ) where
   pub c-read-holds : AnswersBy (junctionAnswer junction .refusal) (junctionAnswer junction .place) (junctionAsked junction) (JunctionPlace (length junction) (reading junction .junction .held .streams))
   unfolding junctionAnswer
   c-read-holds = answers-by _ _ _ junction-some (read-answer junction) (junction-told junction)
 
   pub c-judge-holds : (plan : List ℕ) → AnswersBy (judgeAnswer junction plan .refusal) (judgeAnswer junction plan .place) (judgeAsked junction plan) (JudgePlace junction plan)
-  unfolding judgeAnswer
+  unfolding judgeAnswer answerOf
   c-judge-holds plan = answers-by _ _ _ judge-some (judge-answer junction plan) (judge-told junction plan)
 
   pub c-plan-holds : (size : ℕ) → AnswersBy (planAnswer junction size .refusal) (planAnswer junction size .place) (workAsked junction size) (WorkPlace junction)

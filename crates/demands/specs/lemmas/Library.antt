@@ -4,7 +4,8 @@ use native.Mathlib.Omega.{arith}
 use mathlib.Core.List.{List, [], _∷_, _++_}
 use mathlib.Core.Logic.{_⊎_, inl, inr}
 use mathlib.Core.Path.{_≡_, refl, sym, _∙_}
-use lib.Dec.{leb}
+use lib.Dec.{leb, ltb}
+use Rattle.fields.specs.Bytes.{numberAt}
 use Rattle.fields.specs.Verdict.{numberOf, placeOf, ask, firstRefusal}
 use Rattle.fields.specs.declared.Verdict.{Verdict}
 use Rattle.fields.specs.declared.Verdict.the-variants.{Passed, Refused}
@@ -12,19 +13,20 @@ use Rattle.counts.specs.declared.Wanted.{Wanted}
 use Rattle.junction_questions.specs.Questions.{countRefers}
 use Rattle.junction_places.specs.Places.{exists}
 use Rattle.junction_file.specs.Reading.{reading}
-use Rattle.plan_file.specs.Plans.{cycleInRange}
+use Rattle.plan_file.specs.Plans.{cycleInRange, planVerdict}
 use Rattle.plan_judge.specs.Judgement.{judgement}
 use Rattle.delays.specs.Answer.{carAsked as delayCar, delayVerdict}
+use Rattle.offsets.specs.Shifting.{fileVerdict, shiftVerdict}
 use Rattle.givendra.specs.Answers.{intergreenVerdict, needVerdict, carVerdict}
 use Rattle.givendra.specs.LentList.{listRank}
 use Rattle.givendra.specs.declared.CountRecord.{CountRecord}
 use Rattle.demands.specs.Asked.{Question, question, answer, answer-append, said}
 use Rattle.demands.specs.Places.{JunctionPlace, long, field, file, count, PlanPlace, fit, expected, range, RulePlace, need, capacity, zone}
 use Rattle.demands.specs.Places.{CalculationPlace, ratios-sum, no-cycle, no-room, JudgePlace, WorkPlace, FigurePlace, ListPlace}
-use Rattle.demands.specs.Places.{of-junction, of-plan, of-rule, of-calculation, of-stream, of-cycle, none-usable, DelayPlace, of-judge, no-car}
-use Rattle.demands.specs.Questions.{junctionAsked, judgeAsked, delayAsked, intergreenAsked, needAsked, carAsked, listAsked}
-use Rattle.demands.specs.lemmas.Answered.{read-answer, judge-answer}
-use Rattle.demands.specs.lemmas.Told.{Told, ask-told, first-told, told-more, junction-told, judge-told}
+use Rattle.demands.specs.Places.{of-junction, of-plan, of-rule, of-calculation, of-stream, of-cycle, none-usable, DelayPlace, of-judge, no-car, ShiftPlace, not-below}
+use Rattle.demands.specs.Questions.{junctionAsked, planAsked, judgeAsked, delayAsked, shiftAsked, intergreenAsked, needAsked, carAsked, listAsked}
+use Rattle.demands.specs.lemmas.Answered.{read-answer, plan-answer, judge-answer}
+use Rattle.demands.specs.lemmas.Told.{Told, ask-told, first-told, told-more, junction-told, plan-told, judge-told}
 
 -- where a refusal's number is not 0, the number and the place of a verdict say the verdict
 pub said-is : (v : Verdict) → Told (λ number place. 1 ≤ number) v → said (numberOf v) (placeOf v) ≡ v
@@ -62,6 +64,11 @@ judge-some n p (of-rule w) = rule-some n p w
 pub delay-some : {junction plan : List ℕ} {asked : ℕ} (n p : ℕ) → DelayPlace junction plan asked n p → 1 ≤ n
 delay-some n p (of-judge w) = judge-some n p w
 delay-some n p no-car = omega arith
+
+pub shift-some : {junction plan : List ℕ} (n p : ℕ) → ShiftPlace junction plan n p → 1 ≤ n
+shift-some n p (of-junction w) = junction-some n p w
+shift-some n p (of-plan w) = plan-some n p w
+shift-some n p not-below = omega arith
 
 pub work-some : {junction : List ℕ} (n p : ℕ) → WorkPlace junction n p → 1 ≤ n
 work-some n p (of-junction w) = junction-some n p w
@@ -136,6 +143,23 @@ module _ (junction plan : List ℕ) (n : ℕ) where
       let R = DelayPlace junction plan n in
       first-told R (judgement junction plan) _ (told-more _ R (λ number place. of-judge) (judgement junction plan) (judge-told junction plan))
       (λ e. ask-told R (countRefers (reading junction .junction) n) 9 n Passed (λ f. no-car) (λ f. tt))
+
+module _ (junction plan : List ℕ) (offset : ℕ) where
+  pub shift-answer : shiftVerdict junction plan offset ≡ answer (shiftAsked junction plan offset)
+  unfolding shiftVerdict fileVerdict
+  shift-answer =
+      let streams = reading junction .junction .held .streams in
+      let last : answer (question 24 0 (ltb offset (numberAt plan 3)) ∷ []) ≡ ask (ltb offset (numberAt plan 3)) 24 0 Passed = unfold answer in refl in
+      own-answer junction _ _ (answer-append (planAsked plan streams) _ ∙ rw (plan-answer plan streams, last))
+
+  pub shift-told : Told (ShiftPlace junction plan) (shiftVerdict junction plan offset)
+  unfolding shiftVerdict fileVerdict
+  shift-told =
+      let R = ShiftPlace junction plan in
+      let streams = reading junction .junction .held .streams in
+      first-told R (reading junction .verdict) _ (told-more _ R (λ n p. of-junction) (reading junction .verdict) (junction-told junction)) (λ e.
+      first-told R (planVerdict plan streams) _ (told-more _ R (λ n p. of-plan) (planVerdict plan streams) (plan-told plan streams)) (λ f.
+      ask-told R (ltb offset (numberAt plan 3)) 24 0 Passed (λ g. not-below) (λ g. tt)))
 
 module _ (list : List CountRecord) (w : Wanted) where
   pub list-answer : ask (leb 1 (listRank w list)) 9 (w .stream) Passed ≡ answer (listAsked list w)

@@ -1,22 +1,24 @@
--- 15, 16 and 17 exactly: all that is asked before passes, the stream or zone of that place fails its rule, and every lower one meets it.
+-- 15, 16 and 17 exactly: all that is asked before passes, the stream or zone of that place fails its rule, and every lower one meets it. And 24:
+-- all that is asked before passes, and the offset is not below C.
 use Prim.Native.Nat.{ℕ, _+_, _-_, _≤_, _<_, zero-le}
 use native.Mathlib.Omega.{arith}
 use mathlib.Core.Bool.{Bool, true, false, not, true≢false}
 use mathlib.Core.List.{List}
 use mathlib.Core.Logic.{_↔_}
 use mathlib.Core.Path.{_≡_, refl, sym, _∙_, ap, subst}
-use lib.Dec.{leb}
-use borrow.Author.Tests.{lt-leb, leb-true, leb-false, not-true, not-false}
-use Rattle.laws.specs.Ranges.{Between}
+use lib.Dec.{leb, ltb}
+use borrow.Author.Tests.{lt-leb, leb-true, leb-false, ltb-false, le-ltb, not-true, not-false}
 use Rattle.laws.specs.Search.{firstBelow, first-range, first-passes, first-fails}
 use Rattle.laws.specs.Tests.{by-test}
-use Rattle.fields.specs.Verdict.{numberOf, placeOf, isRefused, firstRefusal, firstFailing, askEach, each-passed}
+use Rattle.fields.specs.Bytes.{numberAt}
+use Rattle.fields.specs.Verdict.{numberOf, placeOf, isRefused, ask, firstRefusal, firstFailing, askEach, each-passed}
 use Rattle.fields.specs.declared.Verdict.{Verdict}
 use Rattle.fields.specs.declared.Verdict.the-variants.{Passed, Refused}
 use Rattle.junction_file.specs.Reading.{reading}
 use Rattle.plan_file.specs.Plans.{planVerdict, planOf}
 use Rattle.plan_rules.specs.Rules.{needMet, capacityMet, zoneMet, rulesVerdict}
 use Rattle.plan_judge.specs.Judgement.{planJudgement, judgement}
+use Rattle.offsets.specs.Shifting.{fileVerdict, shiftVerdict}
 use Rattle.demands.specs.Places.{JunctionPlace, long, field, file, count, PlanPlace, fit, expected, range}
 use Rattle.demands.specs.Questions.{Formed, Every, FirstOf}
 use Rattle.demands.specs.lemmas.Told.{Told, junction-told, plan-told}
@@ -77,31 +79,48 @@ first-later : (v later : Verdict) (m k : ℕ) → (v ≡ Refused m k → ⊥) �
 first-later Passed later m k never = (λ e. (refl, e), λ h. h .1)
 first-later (Refused number place) later m k never = (λ e. absurd (never e), λ h. absurd (true≢false (ap isRefused (h .0))))
 
--- no question of a junction file or of a plan file has the number of a rule
-junction-other : {size streams m k : ℕ} → Between 15 17 m → JunctionPlace size streams m k → ⊥
-junction-other rule long = omega arith
-junction-other rule (field w low) = omega arith
-junction-other rule file = omega arith
-junction-other rule (count w) = omega arith
+-- no question of a junction file or of a plan file has a number from 15 on
+junction-other : {size streams m k : ℕ} → 15 ≤ m → JunctionPlace size streams m k → ⊥
+junction-other later long = omega arith
+junction-other later (field w low) = omega arith
+junction-other later file = omega arith
+junction-other later (count w) = omega arith
 
-plan-other : {size m k : ℕ} → Between 15 17 m → PlanPlace size m k → ⊥
-plan-other rule (fit low) = omega arith
-plan-other rule (expected low) = omega arith
-plan-other rule (range low) = omega arith
+plan-other : {size m k : ℕ} → 15 ≤ m → PlanPlace size m k → ⊥
+plan-other later (fit low) = omega arith
+plan-other later (expected low) = omega arith
+plan-other later (range low) = omega arith
 
 module _ (junction plan : List ℕ) where
   -- past the questions of both files
-  rules-first : (m k : ℕ) → Between 15 17 m
-      → (judgement junction plan ≡ Refused m k) ↔ (Formed junction plan × (rulesVerdict (reading junction .junction) (planOf plan) ≡ Refused m k))
-  unfolding judgement planJudgement
-  rules-first m k rule =
-      let j = reading junction .junction in
-      let one = first-later (reading junction .verdict) (firstRefusal (planVerdict plan (j .held .streams)) (rulesVerdict j (planOf plan))) m k
-      (λ e. junction-other rule (subst (Told _) e (junction-told junction))) in
-      let two = first-later (planVerdict plan (j .held .streams)) (rulesVerdict j (planOf plan)) m k
-      (λ e. plan-other rule (subst (Told _) e (plan-told plan (j .held .streams)))) in (
+  past-files : (later : Verdict) (m k : ℕ) → 15 ≤ m
+      → (firstRefusal (reading junction .verdict) (firstRefusal (planVerdict plan (reading junction .junction .held .streams)) later) ≡ Refused m k)
+      ↔ (Formed junction plan × (later ≡ Refused m k))
+  past-files later m k own =
+      let streams = reading junction .junction .held .streams in
+      let one = first-later (reading junction .verdict) (firstRefusal (planVerdict plan streams) later) m k
+      (λ e. junction-other own (subst (Told _) e (junction-told junction))) in
+      let two = first-later (planVerdict plan streams) later m k (λ e. plan-other own (subst (Told _) e (plan-told plan streams))) in (
         λ e. let a = one .0 e in let b = two .0 (a .1) in ((a .0, b .0), b .1),
         λ h. one .1 (h .0 .0, two .1 (h .0 .1, h .1)),
+      )
+
+  rules-first : (m k : ℕ) → 15 ≤ m
+      → (judgement junction plan ≡ Refused m k) ↔ (Formed junction plan × (rulesVerdict (reading junction .junction) (planOf plan) ≡ Refused m k))
+  unfolding judgement planJudgement
+  rules-first = past-files (rulesVerdict (reading junction .junction) (planOf plan))
+
+  -- 24
+  pub offset-refused : (offset place : ℕ) → (shiftVerdict junction plan offset ≡ Refused 24 place)
+      ↔ (Formed junction plan × (numberAt plan 3 ≤ offset) × (place ≡ 0))
+  unfolding shiftVerdict fileVerdict
+  offset-refused offset place =
+      let all = past-files (ask (ltb offset (numberAt plan 3)) 24 0 Passed) 24 place (omega arith) in (
+        λ e. let h = all .0 e in
+            by-test (ltb offset (numberAt plan 3))
+            (λ t. let none : Passed ≡ Refused 24 place = rw t at (h .1) in absurd (true≢false (sym (ap isRefused none))))
+            (λ t. let is : Refused 24 0 ≡ Refused 24 place = rw t at (h .1) in (h .0, ltb-false _ _ t, sym (ap placeOf is))),
+        λ h. all .1 (h .0, rw (le-ltb offset (numberAt plan 3) (h .1), h .2)),
       )
 
   module _ (k : ℕ) where

@@ -1,11 +1,11 @@
--- `plan::put_greens` is safe and ends: the index stays at most sixteen, and the buffer as long as it was.
+-- `plan_text::put_greens` is safe and ends: the index stays at most sixteen, and the buffer as long as it was.
 use Prim.Native.Nat.{_-_, _≤_}
 use mathlib.Core.Path.{_≡_, refl, _∙_}
 use native.Mathlib.Omega.{arith}
 use borrow.Author.Needs.{needs}
 use lib.ListN.{length}
-use Rattle.plan.proofs.put_greens.Statement.{statement}
-use Rattle.plan.proofs.put_greens.Tie as tie
+use Rattle.plan_text.proofs.put_greens.Statement.{statement}
+use Rattle.plan_text.proofs.put_greens.Tie as tie
 
 abbrev Inv-loop : tie.InvT-loop
 Inv-loop p size out₀ at next₀ i₀ out next i = (i ≤ 16) × (length out ≡ length out₀)
