@@ -1,5 +1,5 @@
-/* Traffic-signal timing by the annex of Ordinance RD-02-21-2: judge a plan, work out a plan, shift a plan, and ask for the annex's figures and for
- * delays.
+/* Traffic-signal timing by the annex of Ordinance RD-02-21-2: judge a plan, work out a plan, shift a plan, ask for the annex's figures and for
+ * delays, and work out portable signals for road works.
  *
  * For x86-64 Linux. `rt staticlib givendra` makes the archive target/staticlib/libgivendra.a; `tools/install PREFIX` installs header, archive and
  * shared library, so that `pkg-config --cflags --libs givendra` says how to compile and link.
@@ -19,7 +19,7 @@
  *   11 to 13  an offset in the plan file: where the field is due, or, of 12, where the file should end
  *   15, 16    the stream
  *   17        the conflict zone, from 1
- *   21 to 24  0
+ *   21 to 27  0
  *
  * A plan file is fields one after another, first the cycle, then a green for each stream of the junction, in the order of the streams. Numbers
  * of two bytes have the high byte first:
@@ -96,6 +96,26 @@ struct givendra_count_record {
     uint8_t period;
 };
 
+/* An approach to a narrowed stretch. */
+struct givendra_approach {
+    size_t flow;       /* E/h */
+    size_t saturation; /* saturation flow, E/h */
+    size_t waiting;    /* available waiting length, m */
+};
+
+/* Portable signals. */
+struct givendra_portable_answer {
+    size_t place;
+    uint8_t refusal;
+    uint16_t clearing_time; /* t of the annex's table, in tenths of a s */
+    uint16_t lost_time;     /* L of the annex's table, in tenths of a s */
+    uint16_t cycle;         /* s */
+    uint16_t first_start;   /* of each approach's green, s */
+    uint16_t first_length;
+    uint16_t second_start;
+    uint16_t second_length;
+};
+
 /* Judges a plan file for a junction file: refusal 0 where the plan is accepted. */
 struct givendra_judge_answer givendra_judge(const uint8_t *junction, size_t junction_length, const uint8_t *plan, size_t plan_length);
 
@@ -143,6 +163,18 @@ struct givendra_delay_answer givendra_delay(const uint8_t *junction, size_t junc
  * stream, where none is left, so always where the period is not from 1 to 4. */
 struct givendra_figure givendra_newest_count(const struct givendra_count_record *list, size_t list_length, size_t stream, uint16_t design_day, size_t period);
 
+/* Portable signals for road works: a narrowed stretch in m with one lane for both directions, a speed in km/h, and the approaches at its two ends
+ * (annex, part B). The speed is the mean speed of clearing cars, measured on the site; where it is not measured, the annex lets it be assumed by the
+ * local conditions and the state of the surface. A saturation flow is the annex's for this stretch: part B asks for a Ky of 1 at most and Kturn 1,
+ * while givendra_saturation_flow goes by a junction file's conditions and turning shares.
+ *
+ * t = 3.6 x (stretch + 20) / speed. M = 3 + t, unrounded, rounded up, follows each green; the first approach starts at 0. The cycle is by (32) with
+ * L = 2 x (M - 1): the table's L, lost_time, is less, and the same only where t is whole. Refused, in this order: 25, where the annex's table does not
+ * list stretch and speed (10 to 300 m by tens; 25, 30, 35 and 40 km/h); 26, where a flow or a saturation flow is not from 1 to 9,999; 21; 22; 27,
+ * where an available waiting length is not above flow x cycle / 600 m. No shorter cycle is sought for 27; with 3,000 m for both it never comes, so
+ * that the cycle is answered. */
+struct givendra_portable_answer givendra_portable(size_t stretch, size_t speed, struct givendra_approach first, struct givendra_approach second);
+
 #ifdef __cplusplus
 }
 #endif
@@ -173,6 +205,9 @@ static inline const char *givendra_refusal_text(unsigned number)
     case 22: return "no cycle length from the annex's optimum to 180 s works";
     case 23: return "the buffer is too short";
     case 24: return "the offset is not below the cycle";
+    case 25: return "the annex's table does not list the stretch or the speed";
+    case 26: return "a flow or a saturation flow is not from 1 to 9,999";
+    case 27: return "an available waiting length is not above the needed one";
     default: return "unknown refusal";
     }
 }

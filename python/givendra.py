@@ -40,6 +40,9 @@ _TEXTS = {
     22: "no cycle length from the annex's optimum to 180 s works",
     23: "the buffer is too short",
     24: "the offset is not below the cycle",
+    25: "the annex's table does not list the stretch or the speed",
+    26: "a flow or a saturation flow is not from 1 to 9,999",
+    27: "an available waiting length is not above the needed one",
 }
 
 
@@ -79,7 +82,13 @@ Count = collections.namedtuple("Count", "stream count_day file_day flow period")
 Count.__doc__ = "One traffic count: the stream, the day of the count, the day of its file (of no effect), the flow, the period of the day, 1 to 4."
 
 Green = collections.namedtuple("Green", "start length")
-Green.__doc__ = "A stream's green in a plan: where in the cycle it starts and how long it lasts."
+Green.__doc__ = "The green of a stream in a plan, or of an approach: where in the cycle it starts and how long it lasts."
+
+Approach = collections.namedtuple("Approach", "flow saturation waiting")
+Approach.__doc__ = "An approach to a narrowed stretch: flow and saturation flow, and the available waiting length in metres."
+
+Portable = collections.namedtuple("Portable", "clearing_time lost_time cycle first second")
+Portable.__doc__ = "Portable signals: t and L of the annex's table, in tenths of a second, the cycle, and the Green of each approach."
 
 
 # ---- the structs and functions of include/givendra.h
@@ -113,6 +122,16 @@ class _CountRecord(ctypes.Structure):
                 ("period", ctypes.c_uint8)]
 
 
+class _Approach(ctypes.Structure):
+    _fields_ = [("flow", ctypes.c_size_t), ("saturation", ctypes.c_size_t), ("waiting", ctypes.c_size_t)]
+
+
+class _PortableAnswer(ctypes.Structure):
+    _fields_ = _refusal + [("clearing_time", ctypes.c_uint16), ("lost_time", ctypes.c_uint16), ("cycle", ctypes.c_uint16),
+                           ("first_start", ctypes.c_uint16), ("first_length", ctypes.c_uint16), ("second_start", ctypes.c_uint16),
+                           ("second_length", ctypes.c_uint16)]
+
+
 _file = [ctypes.c_char_p, ctypes.c_size_t]
 _written = [ctypes.POINTER(ctypes.c_uint8), ctypes.c_size_t]
 _FUNCTIONS = {
@@ -127,6 +146,7 @@ _FUNCTIONS = {
     "flow_ratio": (_Figure, _file + [ctypes.c_size_t]),
     "delay": (_DelayAnswer, _file + _file + [ctypes.c_size_t]),
     "newest_count": (_Figure, [ctypes.POINTER(_CountRecord), ctypes.c_size_t, ctypes.c_size_t, ctypes.c_uint16, ctypes.c_size_t]),
+    "portable": (_PortableAnswer, [ctypes.c_size_t, ctypes.c_size_t, _Approach, _Approach]),
 }
 
 
@@ -266,6 +286,16 @@ def newest_count(counts, stream, design_day, period):
     records = [_CountRecord(*(_whole(n, b, name) for n, (name, b) in zip(Count(*count), bits))) for count in counts]
     lent = (_CountRecord * len(records))(*records)
     return _answer("newest_count", lent, len(lent), _stream(stream), _whole(design_day, 16, "a design day"), _whole(period, 64, "a period")).value
+
+
+def portable(stretch, speed, first, second):
+    """Portable signals for a narrowed stretch in metres, a speed in km/h, measured on the site or assumed by the annex, and two approaches, each an
+    Approach or three numbers like it: a Portable."""
+    lent = [_Approach(*(_whole(n, 64, name) for n, name in zip(Approach(*approach), ("a flow", "a saturation flow", "a waiting length"))))
+            for approach in (first, second)]
+    answer = _answer("portable", _whole(stretch, 64, "a stretch"), _whole(speed, 64, "a speed"), *lent)
+    return Portable(answer.clearing_time, answer.lost_time, answer.cycle, Green(answer.first_start, answer.first_length),
+                    Green(answer.second_start, answer.second_length))
 
 
 # ---- the plan file

@@ -9,12 +9,14 @@ failed=0
 # lines: a line for each @.
 lines() { tr -d ' \n' | tr @ '\n' | sed 's/,)/)/' | sort; }
 
-# To C, a slice of the crate is a pointer and a length.
-awk '/^pub struct/, /^}/; /^pub extern "C" fn/, /->/' crates/givendra/src/lib.rt | sed -E '
+# To C, a slice of the crate is a pointer and a length. An approach is a struct of the crate roadworks.
+awk '/^pub struct/, /^}/; /^pub extern "C" fn/, /->/' crates/givendra/src/lib.rt > "$work/library"
+awk '/^#\[repr\(C\)\]$/, /^}/ { if (!/^#/) print }' crates/roadworks/src/lib.rt >> "$work/library"
+sed -E '
     s/^pub (extern "C" )?(fn|struct)/@\2/
     s/^ *pub //
     s/(\w+): &\[(\w+)\]/\1: *const \2, \1_length: usize/g
-    s/(\w+): &mut \[(\w+)\]/\1: *mut \2, \1_length: usize/g' | lines > "$work/crate"
+    s/(\w+): &mut \[(\w+)\]/\1: *mut \2, \1_length: usize/g' "$work/library" | lines > "$work/crate"
 
 awk '/^pub struct/, /^}/; /^ *pub fn/, /;$/' givendra-sys/src/lib.rs | sed -E '
     s/^ *pub (fn|struct)/@\1/
@@ -37,7 +39,7 @@ awk '/^struct [a-z_]* {$/, /^};/; /^[a-z].*\(/, /;$/' "$work/block" | sed -E '
     s/\(void\)/()/
     s/const (struct \w+|\w+) \*(\w+)/\2: *const \1/g
     s/(\w+) \*(\w+)([,)])/\2: *mut \1\3/g
-    s/(size_t|uint[0-9]+_t) (\w+)([,)])/\2: \1\3/g
+    s/(size_t|uint[0-9]+_t|struct \w+) (\w+)([,)])/\2: \1\3/g
     s/size_t/usize/g
     s/uint([0-9]+)_t/u\1/g
     s/double/f64/g

@@ -97,6 +97,15 @@ static void layout(void)
            offsetof(struct givendra_delay_answer, place), offsetof(struct givendra_delay_answer, refusal),
            offsetof(struct givendra_delay_answer, outcome), offsetof(struct givendra_delay_answer, level),
            offsetof(struct givendra_delay_answer, value));
+    printf("approach: size %zu flow %zu saturation %zu waiting %zu\n", sizeof(struct givendra_approach), offsetof(struct givendra_approach, flow),
+           offsetof(struct givendra_approach, saturation), offsetof(struct givendra_approach, waiting));
+    printf("portable_answer: size %zu place %zu refusal %zu clearing_time %zu lost_time %zu cycle %zu first_start %zu first_length %zu "
+           "second_start %zu second_length %zu\n",
+           sizeof(struct givendra_portable_answer), offsetof(struct givendra_portable_answer, place),
+           offsetof(struct givendra_portable_answer, refusal), offsetof(struct givendra_portable_answer, clearing_time), offsetof(struct givendra_portable_answer, lost_time),
+           offsetof(struct givendra_portable_answer, cycle), offsetof(struct givendra_portable_answer, first_start),
+           offsetof(struct givendra_portable_answer, first_length), offsetof(struct givendra_portable_answer, second_start),
+           offsetof(struct givendra_portable_answer, second_length));
     struct after_a_byte {
         uint8_t byte;
         struct givendra_count_record record;
@@ -505,10 +514,48 @@ static void greens(void)
     green_changed("a length of 262", 19, 1);
 }
 
+static void portable(const char *name, size_t stretch, size_t speed, struct givendra_approach first, struct givendra_approach second)
+{
+    struct givendra_portable_answer a = givendra_portable(stretch, speed, first, second);
+    printf("portable, %s: refusal %u place %zu clearing_time %u lost_time %u cycle %u first_start %u first_length %u second_start %u "
+           "second_length %u\n", name, a.refusal, a.place, a.clearing_time, a.lost_time, a.cycle, a.first_start, a.first_length, a.second_start, a.second_length);
+}
+
+/* 100 m at 30 km/h: t is 3.6 x 120/30 = 14.4 s, L 32.8 s, M 18. y is 2,223 and 2,112, Y 4,335; T0 is 99, since 99 x 5,665 is at least
+ * 15,000 x 34 + 50,000 = 560,000, and 98 x 5,665 is not. Of 65 s 33 and 31 are effective, and one is left over, for the first: 34 and 31, so the
+ * greens are 33 and 30, and 33 + 18 + 30 + 18 = 99. 400 x 99/600 is 66 m, 380 x 99/600 62.7 m. With 400 twice Y is 4,446 and T0 101; of 67 s each
+ * has 33, and one is left over. 140 m at 25 km/h: t is 23.04 s, so M is 27. At 300 m and 25 km/h M is 50 and L 98: with Y 1,551 T0 is 180, with Y
+ * 1,556 it is 181: 22. With 900 of 1,800 twice Y is 10,000: 21. Three of the numbers refused by 25 or 26 are in range where they are cut to 16 or
+ * 32 bits. 25 comes before 26, and 21 and 22 before 27. */
+static void road_works(void)
+{
+    struct givendra_approach one = {400, 1800, 67}, two = {380, 1800, 63}, equal = {400, 1800, 66}, less = {380, 1800, 62};
+    struct givendra_approach far = {400, 1800, (size_t)-1}, quiet = {200, 1800, 100}, half = {900, 1800, 0}, none = {0, 1800, 100};
+    struct givendra_approach much = {400, 10000, 100}, cut = {65536 + 400, 1800, 67}, cut_more = {400, 4294967296 + 1800, 67};
+    struct givendra_approach long_one = {140, 1800, 100}, long_two = {139, 1800, 100}, long_none = {140, 1800, 0};
+    portable("100 m at 30 km/h", 100, 30, one, two);
+    portable("a very long way to wait", 100, 30, far, far);
+    portable("140 m at 25 km/h", 140, 25, quiet, quiet);
+    portable("300 m at 25 km/h", 300, 25, long_one, long_two);
+    portable("a stretch of 95 m", 95, 30, none, two);
+    portable("a stretch of 310 m", 310, 30, one, two);
+    portable("a stretch of 65,636 m", 65636, 30, one, two);
+    portable("a speed of 45 km/h", 100, 45, one, two);
+    portable("no speed", 100, 0, one, two);
+    portable("no flow in the second", 100, 30, one, none);
+    portable("a saturation flow of 10,000", 100, 30, much, two);
+    portable("a flow of 65,936", 100, 30, cut, two);
+    portable("a saturation flow of 2 to the 32 and 1,800", 100, 30, one, cut_more);
+    portable("900 of 1,800 twice", 100, 30, half, half);
+    portable("140 twice at 300 m", 300, 25, long_none, long_none);
+    portable("66 m in the first", 100, 30, equal, two);
+    portable("62 m in the second", 100, 30, one, less);
+}
+
 /* Every number in use, those between them, and others. */
 static void texts(void)
 {
-    for (unsigned number = 0; number <= 25; number++)
+    for (unsigned number = 0; number <= 28; number++)
         printf("text %u: %s\n", number, givendra_refusal_text(number));
     printf("text 256: %s\n", givendra_refusal_text(256));
     printf("text 4294967295: %s\n", givendra_refusal_text(4294967295));
@@ -529,6 +576,7 @@ int main(void)
     shifting();
     delays();
     greens();
+    road_works();
     texts();
     return 0;
 }

@@ -38,6 +38,7 @@ same "the installed files" 0 "./bin/accepted
 ./bin/intergreens
 ./bin/judge
 ./bin/plan
+./bin/portable
 ./bin/shift
 ./include/givendra.h
 ./lib/libgivendra.a
@@ -75,6 +76,7 @@ same "the installed delay" 0 "1 delay 3.5 A" "$bin/delay" "$whole.junction" "$wh
 same "the installed shift" 0 "cycle 50
 1 10 35
 2 0 6" "$bin/shift" "$whole.junction" "$whole.plan" 10
+same "the installed portable" 0 "$(cat "$root/crates/portable/stdout")" "$bin/portable" 100 30 400 1800 67 380 1800 63
 same "the installed intergreens" 0 "$(cat "$root/crates/intergreens/stdout")" sh -c '"$1" < "$2"' sh "$bin/intergreens" "$root/examples/four_phases.junction"
 : > empty.plan
 for accepted in "$bin/accepted" "$root/tools/accepted"; do

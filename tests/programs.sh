@@ -1,10 +1,10 @@
 #!/bin/sh
-# Runs the programs judge, plan, shift, delay and intergreens on files, and compares what they write with what they should. What rt has proved and
+# Runs the programs judge, plan, shift, delay, portable and intergreens on files and numbers, and compares what they write with what they should. What rt has proved and
 # has not changed since is not proved again.
 cd "$(dirname "$0")/.." || exit 1
 work=$(mktemp -d) || exit 1
 trap 'rm -rf "$work"' EXIT
-rt check judge plan shift delay intergreens > "$work/log" 2>&1 || { tail -n 20 "$work/log"; exit 1; }
+rt check judge plan shift delay portable intergreens > "$work/log" 2>&1 || { tail -n 20 "$work/log"; exit 1; }
 failed=0
 
 # same NAME EXPECTED-OUTPUT EXPECTED-ERROR COMMAND..: compares standard output and standard error.
@@ -275,5 +275,36 @@ for program in judge delay shift; do
     same "$program to a closed output" '' "$program: standard output: Bad file descriptor\n" sh -c "$bin $junction $plan $more >&-"
 done
 
-[ $failed = 0 ] && echo "programs: judge, plan, shift, delay and intergreens write what they should"
+# Portable signals, with each refusal; digits alone are numbers, however many there are, and zeros may stand before them.
+portable=target/bin/portable
+usage='usage: portable STRETCH SPEED FLOW S WAITING FLOW S WAITING\nstretch and available waiting lengths in m, flows and saturation flows in E/h, approach 1 before approach 2;\nspeed in km/h: the mean speed of clearing cars, measured on the site or assumed by the annex\n'
+answer='t 14.4\nL 32.8\ncycle 99\n1 0 33\n2 51 30\n'
+digits=$(head -c 4000 /dev/zero | tr '\000' 9)
+same "portable" "$answer" '' $portable 100 30 400 1800 67 380 1800 63
+same "portable with zeros before its numbers" "$answer" '' $portable 0100 030 0400 001800 067 380 1800 00063
+same "portable with waiting lengths of 4,000 digits" "$answer" '' $portable 100 30 400 1800 $digits 380 1800 $digits
+same "portable at 80 m and 40 km/h" 't 9.0\nL 22.0\ncycle 58\n1 0 17\n2 29 17\n' '' $portable 80 40 300 1800 30 300 1800 30
+for stretch in 0 9 95 301 310 $digits 18446744073709551716; do
+    same "portable for a stretch of $stretch" 'refused 25 0\n' '' $portable $stretch 30 400 1800 67 380 1800 63
+done
+for flow in 0 10000 65936 $digits 18446744073709552016; do
+    same "portable for a flow of $flow" 'refused 26 0\n' '' $portable 100 30 $flow 1800 67 380 1800 63
+    same "portable for a second S of $flow" 'refused 26 0\n' '' $portable 100 30 400 1800 67 380 $flow 63
+done
+same "portable for 900 of 1,800 twice" 'refused 21 0\n' '' $portable 100 30 900 1800 999 900 1800 999
+same "portable for an optimum of 181 s" 'refused 22 0\n' '' $portable 300 25 140 1800 999 140 1800 999
+same "portable with 66 m to wait" 'refused 27 0\n' '' $portable 100 30 400 1800 66 380 1800 63
+same "portable with 62 m to wait" 'refused 27 0\n' '' $portable 100 30 400 1800 67 380 1800 62
+for word in '' - -1 +100 1.5 100m ' 100' '100 ' 0x64 $digits$digits; do
+    same "portable for a stretch of '$word'" '' "$usage" $portable "$word" 30 400 1800 67 380 1800 63
+    same "portable for a last number of '$word'" '' "$usage" $portable 100 30 400 1800 67 380 1800 "$word"
+done
+same "portable without arguments" '' "$usage" $portable
+same "portable with seven numbers" '' "$usage" $portable 100 30 400 1800 67 380 1800
+same "portable with nine numbers" '' "$usage" $portable 100 30 400 1800 67 380 1800 63 1
+same "portable --help" '' "$usage" $portable --help
+same "portable to a full output" '' 'portable: standard output: No space left on device\n' sh -c "$portable 100 30 400 1800 67 380 1800 63 > /dev/full"
+same "portable to a closed output" '' 'portable: standard output: Bad file descriptor\n' sh -c "$portable 95 30 400 1800 67 380 1800 63 >&-"
+
+[ $failed = 0 ] && echo "programs: judge, plan, shift, delay, portable and intergreens write what they should"
 exit $failed

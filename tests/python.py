@@ -92,13 +92,22 @@ def told_plan(words, _):
     return text + (" kept" if memory[size:] == b"\xa5" * (300 - size) else " spoilt")
 
 
+def told_portable(words, _):
+    numbers = [int(word) for word in words.split()]
+    told = outcome(givendra.portable, numbers[0], numbers[1], givendra.Approach(*numbers[2:5]), numbers[5:8])
+    if isinstance(told, str):
+        return told
+    return "t %d L %d cycle %d 1 %d %d 2 %d %d" % (told[:3] + told.first + told.second)
+
+
 def answered(case):
     """What is printed for a line."""
     line, junction = case
     if not line or line.startswith("#"):
         return line
     head, _, words = line.partition(":")
-    told = {"read": told_reading, "judge": told_judgement, "delay": told_delay, "shift": told_shift, "plan": told_plan}[head.split()[0]]
+    told = {"read": told_reading, "judge": told_judgement, "delay": told_delay, "shift": told_shift, "plan": told_plan,
+            "portable": told_portable}[head.split()[0]]
     return "%s: %s" % (head, told(words, junction))
 
 
@@ -195,6 +204,14 @@ def own():
     same("a plan that cannot be written", outcome(givendra.shift_in_place, junction, plan, 1), "TypeError")
     same("a plan in a memoryview", givendra.green(givendra.shift(memoryview(junction), memoryview(plan), 10), 2), (0, 6))
     same("a green of no stream", outcome(givendra.green, b"", -1), "OverflowError")
+    approach = (400, 1800, 67)
+    same("portable signals", givendra.portable(100, 30, approach, (380, 1800, 63)), (144, 328, 99, (0, 33), (51, 30)))
+    for arguments, expected in (((-1, 30, approach, approach), "OverflowError"), ((100, 1 << 64, approach, approach), "OverflowError"),
+                                ((100, 30, (400, 1800, 1 << 64), approach), "OverflowError"), ((100, 30, approach, (400, 1800)), "TypeError"),
+                                ((100, 30, (400, 1800, 67.5), approach), "TypeError"), (((1 << 64) - 1, 30, approach, approach), "refused 25 0"),
+                                ((100, 30, ((1 << 64) - 1, 1800, 67), approach), "refused 26 0")):
+        same("portable signals of %r" % (arguments,), outcome(givendra.portable, *arguments), expected)
+    same("a waiting length of 2 to the 64 less 1", givendra.portable(100, 30, (400, 1800, (1 << 64) - 1), (380, 1800, 63)).cycle, 99)
 
     days = [givendra.Count(1, 8999, 0, 500, 1), (1, 9000, 0, 600, 1), (1, 8000, 0, 900, 1), (1, 9001, 0, 700, 1), (1, 9000, 0, 800, 2),
             (1, 9000, 0, 900, 5), (1, 9000, 0, 900, 0)]

@@ -1,6 +1,7 @@
 /* Measures the stack of the library's calls. Calls each function on a stack of its own that is filled with a5, looks how far down it was
  * altered, and prints the most bytes that a call took. The words are names of junction files; each is planned, its plan judged, its figures
- * and a delay asked for, and its plan shifted. Ends with status 1 where a call took GIVENDRA_STACK bytes or more. */
+ * and a delay asked for, and its plan shifted; and portable signals are worked out. Ends with status 1 where a call took GIVENDRA_STACK bytes or
+ * more. */
 #define _XOPEN_SOURCE 700
 #include "givendra.h"
 #include <stdio.h>
@@ -9,6 +10,7 @@
 
 static uint8_t junction[16385], plan[GIVENDRA_PLAN_LENGTH(16)], stack[4 * GIVENDRA_STACK];
 static size_t length, plan_length;
+static const struct givendra_approach approach = {600, 1800, 999};
 static const struct givendra_count_record list[] = {{1, 9000, 0, 600, 1}, {2, 9000, 0, 600, 1}};
 
 static void judge(void) { givendra_judge(junction, length, plan, plan_length); }
@@ -21,11 +23,12 @@ static void flow_ratio(void) { givendra_flow_ratio(junction, length, 1); }
 static void delay(void) { givendra_delay(junction, length, plan, plan_length, 1); }
 static void shift(void) { givendra_shift(junction, length, plan, plan_length, 1); }
 static void newest_count(void) { givendra_newest_count(list, 2, 1, 9000, 1); }
+static void portable(void) { givendra_portable(10, 40, approach, approach); }
 static void release(void) { givendra_release(); }
 
 /* The plan is worked out before it is judged. */
 static void (*const calls[])(void) = {work_out, judge, read_junction, intergreen, need, saturation_flow, flow_ratio, delay, shift, newest_count,
-                                      release};
+                                      portable, release};
 
 static ucontext_t here, there;
 static void (*called)(void);

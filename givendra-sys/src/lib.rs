@@ -59,6 +59,28 @@ pub struct DelayAnswer {
     pub value: f64,
 }
 
+#[repr(C)]
+#[derive(Clone, Copy, PartialEq, Eq, Debug)]
+pub struct Approach {
+    pub flow: usize,
+    pub saturation: usize,
+    pub waiting: usize,
+}
+
+#[repr(C)]
+#[derive(Clone, Copy, PartialEq, Eq, Debug)]
+pub struct PortableAnswer {
+    pub place: usize,
+    pub refusal: u8,
+    pub clearing_time: u16,
+    pub lost_time: u16,
+    pub cycle: u16,
+    pub first_start: u16,
+    pub first_length: u16,
+    pub second_start: u16,
+    pub second_length: u16,
+}
+
 // Not bundled: only a program that calls the library needs it, so tests that do not are linked without it.
 #[link(name = "givendra", kind = "static", modifiers = "-bundle")]
 extern "C" {
@@ -73,4 +95,5 @@ extern "C" {
     pub fn givendra_delay(junction: *const u8, junction_length: usize, plan: *const u8, plan_length: usize, stream: usize) -> DelayAnswer;
     pub fn givendra_shift(junction: *const u8, junction_length: usize, plan: *mut u8, plan_length: usize, offset: usize) -> JudgeAnswer;
     pub fn givendra_newest_count(list: *const CountRecord, list_length: usize, stream: usize, design_day: u16, period: usize) -> Figure;
+    pub fn givendra_portable(stretch: usize, speed: usize, first: Approach, second: Approach) -> PortableAnswer;
 }

@@ -10,12 +10,16 @@
 //!   `refused N P` is printed, where BITS are the 64 bits of the number in 16 hexadecimal digits;
 //! - `shift LABEL: OFFSET HEX` is an offset and a plan file; `shifted HEX` with every byte of the lent file afterwards is
 //!   printed, without spaces, or `refused N P`, then `kept` where no byte of the lent file changed, else `spoilt`;
+//! - `portable LABEL: STRETCH SPEED FLOW S WAITING FLOW S WAITING` is a narrowed stretch in m, a speed in km/h and, of approach 1
+//!   and then of approach 2, flow, S and available waiting length in m, all decimal; `t TENTHS L TENTHS cycle C 1 START LENGTH
+//!   2 START LENGTH` is printed on one line, t and L in tenths of a second, or `refused N P`;
 //! - `plan LABEL: SIZE HEX` is the lent buffer's size and a junction file; the cycle, the tried count and the plan file are
 //!   printed, or `refused N P`, then `kept` where the rest of the buffer is as it was.
 //!
 //! Bytes are in lower-case hexadecimal, with or without spaces; `*N` after a byte stands for that byte N times.
 
-use crate::{delay, judge, read_junction, shift, Delay, Refusal};
+use crate::portable::Works;
+use crate::{delay, judge, portable, read_junction, shift, Delay, Refusal};
 
 /// The bytes that a text stands for.
 pub fn bytes_of(text: &str) -> Vec<u8> {
@@ -87,6 +91,7 @@ fn case(head: &str, text: &str, junction: &[u8]) -> String {
         Some(("judge", _)) => answer(judge(junction, &bytes_of(text))),
         Some(("delay", _)) => delayed(text, junction),
         Some(("shift", _)) => shifted(text, junction),
+        Some(("portable", _)) => worked_at(text),
         Some(("plan", _)) => planned(text),
         _ => panic!("not known: {head}"),
     }
@@ -119,6 +124,24 @@ fn shifted(text: &str, junction: &[u8]) -> String {
         Ok(()) => format!("shifted {}", hex_of(&lent)),
         Err(r) => format!("{} {}", answer(Err(r)), if lent == plan { "kept" } else { "spoilt" }),
     }
+}
+
+/// The answer for road works in words.
+fn worked_at(text: &str) -> String {
+    match portable(&works_of(text)) {
+        Ok(p) => {
+            let [one, two] = p.greens;
+            let greens = format!("1 {} {} 2 {} {}", one.start, one.length, two.start, two.length);
+            format!("t {} L {} cycle {} {greens}", p.clearing_time, p.lost_time, p.cycle)
+        }
+        Err(r) => answer(Err(r)),
+    }
+}
+
+/// The numbers of road works.
+fn works_of(text: &str) -> Works {
+    let numbers: Vec<usize> = text.split(' ').filter(|w| !w.is_empty()).map(|w| w.parse().expect("a number")).collect();
+    Works::of(numbers.try_into().expect("eight numbers"))
 }
 
 /// Every byte in two hexadecimal digits.

@@ -1,10 +1,11 @@
-//! Random junctions that are taken, and random plans for them that are well-formed.
+//! Random junctions that are taken, and random plans for them that are well-formed; random road works.
 
 use crate::annex::{crossing_quotient, need, saturation};
 use crate::delay::{figures, Delay, LEVELS};
 use crate::exact::whole;
 use crate::junction::*;
 use crate::plan::{Green, Plan};
+use crate::portable::{cycle_of, intergreen, Approach, Works, NUMBERS, SPEEDS};
 use crate::random::Random;
 use crate::times::{accelerating, Entries};
 use crate::work_out::work_out;
@@ -594,4 +595,132 @@ fn not_chosen(r: &mut Random, own: &Count, design_day: u16) -> Count {
         5 if own.count_day > 0 => Count { count_day: own.count_day - 1, file_day, flow, ..*own },
         _ => Count { file_day, flow: r.from_to(1, own.flow as i64) as u16, ..*own },
     }
+}
+
+// ---- road works with portable signals
+
+/// Road works of every sort: listed and not, with flows and S in range and not, a cycle and none, waiting lengths at their limits.
+pub fn some_works(r: &mut Random) -> Works {
+    let mut works = listed_works(r);
+    give_waiting(r, &mut works);
+    if r.one_in(8) {
+        let one = |r: &mut Random| if r.one_in(3) { usize::MAX } else { r.from_to(0, 60) as usize };
+        works.approaches[0].waiting = one(r);
+        works.approaches[1].waiting = one(r);
+    }
+    let mut numbers = works.numbers();
+    for _ in 0..r.pick(&[0, 0, 0, 1, 2]) {
+        let which = r.from_to(0, NUMBERS as i64 - 1) as usize;
+        numbers[which] = other_number(r, numbers[which]);
+    }
+    Works::of(numbers)
+}
+
+/// Road works with a listed stretch and speed, and flows and S in range. There is more waiting length than is ever needed.
+pub fn listed_works(r: &mut Random) -> Works {
+    let short = r.one_in(4);
+    let stretch = 10 * r.from_to(1, if short { 4 } else { 30 }) as usize;
+    let speed = r.pick(&SPEEDS);
+    // (32) gives 180 where 10,000 - Y is a 180th of 15,000 x L + 50,000
+    let l = 2 * (intergreen(stretch, speed) - 1);
+    let last = 10_000 - (15_000 * l + 50_000) / 180;
+    // where each approach has its needed green, but approach 2 at times not its capacity
+    let capacity = short && r.one_in(3);
+    let y = match r.from_to(1, 10) {
+        _ if capacity => last - r.from_to(0, 150),
+        1 if r.one_in(3) => r.from_to(9_990, 10_010),
+        2 => r.from_to(1, 12_000),
+        3 => last + r.from_to(-300, 100),
+        _ => r.from_to(last / 8, last),
+    };
+    let y = y.max(20);
+    let share = match r.from_to(1, 5) {
+        _ if capacity => r.from_to(9_150, 9_480),
+        1 => r.from_to(1, 1_500),
+        2 => r.from_to(8_500, 9_999),
+        _ => r.from_to(1_500, 8_500),
+    };
+    let one = (y * share / 10_000).max(1);
+    let mut approaches = [one, (y - one).max(1)].map(|y| some_approach(r, y));
+    if !capacity && r.one_in(8) {
+        approaches = [some_approach(r, y / 2); 2];
+    }
+    Works { stretch, speed, approaches }
+}
+
+/// An approach with this y, as nearly as whole numbers allow.
+fn some_approach(r: &mut Random, y: i64) -> Approach {
+    let (flow, s) = if r.one_in(4) {
+        // so that flow x C/600 is often whole
+        let flow = r.pick(&[60, 100, 120, 150, 200, 300, 300, 600, 600, 1_200]);
+        (flow, 10_000 * flow / y)
+    } else {
+        let (from, to) = r.pick(&[(1_200, 2_500), (1_200, 2_500), (1, 9_999), (9_999, 9_999)]);
+        let s = r.from_to(from, to);
+        (y * s / 10_000, s)
+    };
+    Approach { flow: flow.clamp(1, 9_999) as usize, s: s.clamp(1, 9_999) as usize, waiting: 1_000_000 }
+}
+
+/// Gives waiting lengths beside those that the cycle needs, or others.
+fn give_waiting(r: &mut Random, works: &mut Works) {
+    let cycle = cycle_of(works).map_or(180, |c| c.cycle as usize);
+    for approach in &mut works.approaches {
+        let needed = approach.flow * cycle / 600;
+        approach.waiting = match r.from_to(1, 12) {
+            1 | 2 => needed,
+            3 => needed.saturating_sub(1),
+            4 => needed + r.from_to(2, 300) as usize,
+            5 => (1 << r.pick(&[8, 16, 32, 63])) + r.from_to(0, needed as i64) as usize,
+            _ => needed + 1,
+        };
+    }
+}
+
+/// A number beside this one, at the end of a range, with higher bits, or any.
+pub fn other_number(r: &mut Random, number: usize) -> usize {
+    match r.from_to(1, 12) {
+        1 => 0,
+        2 => number.saturating_sub(1),
+        3 => number.saturating_add(1),
+        4 => r.pick(&[1, 9_999, 10_000, 10_001, 310, 20, 45]),
+        5 => number ^ (1 << 8),
+        6 | 7 => number ^ (1 << 16),
+        8 | 9 => number ^ (1 << 32),
+        10 => number ^ (1 << 63),
+        11 if r.one_in(2) => usize::MAX,
+        11 => r.any() as usize,
+        _ => r.from_to(0, 400) as usize,
+    }
+}
+
+/// Road works, and a junction of two cars with the same flows, S and M, which is at most 13: two flying straight cars whose zone has
+/// M as both entries. There is more waiting length than is ever needed.
+pub fn works_as_junction(r: &mut Random) -> (Works, Junction) {
+    let (stretch, speed) = loop {
+        let (stretch, speed) = (10 * r.from_to(1, 9) as usize, r.pick(&SPEEDS));
+        if intergreen(stretch, speed) <= 13 {
+            break (stretch, speed);
+        }
+    };
+    let y = r.from_to(100, 10_500);
+    let one = y * r.from_to(1, 99) / 100;
+    let mut junction = Junction { number: 7, design_day: 9000, period: 1, streams: vec![], zones: vec![], counts: vec![] };
+    let approaches = [(1, one), (2, y - one)].map(|(stream, y)| {
+        let car = loop {
+            let car = Car { amber: 3, flying: true, radius: 0, ..random_car(r) };
+            if saturation(&car) <= 9_999 {
+                break car;
+            }
+        };
+        let s = saturation(&car);
+        let flow = (y * s / 10_000).clamp(1, 9_999) as u16;
+        junction.streams.push(Stream { phase: stream, kind: Kind::Car(car) });
+        junction.counts.push(Count { stream, count_day: 9000, file_day: 0, flow, period: 1 });
+        Approach { flow: flow as usize, s: s as usize, waiting: 1_000_000 }
+    });
+    // 3 + (l + 60)/100 is M
+    let l = (100 * (intergreen(stretch, speed) - 3) - 60) as u16;
+    junction.zones.push(Zone { a: 1, b: 2, clearing_a: l, reaching_a: 0, clearing_b: l, reaching_b: 0 });
+    (Works { stretch, speed, approaches }, junction)
 }

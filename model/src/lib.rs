@@ -1,6 +1,7 @@
 //! A second implementation of document 01 ("Junction timing by the annex of RD-02-21-2"), with requests 2026-01 (crossings with
 //! an island), 2026-02 (trams past forty metres), 2026-03 (no answer changed), 2026-04 (periods), 2026-05 (delay and level
-//! of service) and 2026-06 (offsets along a street) of document 02, written apart from the first.
+//! of service), 2026-06 (offsets along a street) and 2026-07 (portable signals for road works) of document 02, written apart from
+//! the first.
 //!
 //! It is written by the most direct reading and not for speed, so that it can be read beside the paper:
 //! - `exact`:    seconds as fractions and roots, compared exactly;
@@ -13,7 +14,8 @@
 //! - `delay`:    the delay of a car in an accepted plan, and its level of service, in f64;
 //! - `shift`:    one offset for every start of a plan file, question 24;
 //! - `work_out`: "Working out a plan", questions 21, 22, 23;
-//! - `random`, `generate`, `faults`: random junction and plan files for the tests, taken and refused;
+//! - `portable`: portable signals for one narrowed stretch with two approaches, questions 25, 26, 21, 22, 27;
+//! - `random`, `generate`, `faults`: random junction and plan files for the tests, taken and refused, and random road works;
 //! - `cases`:    the text form of the stored test cases.
 
 pub mod annex;
@@ -26,6 +28,7 @@ pub mod judge;
 pub mod junction;
 pub mod meaning;
 pub mod plan;
+pub mod portable;
 pub mod random;
 pub mod shift;
 pub mod times;
@@ -36,6 +39,7 @@ pub use judge::judge;
 pub use junction::{read_junction, Junction};
 pub use meaning::meaning;
 pub use plan::{read_plan, Plan};
+pub use portable::portable;
 pub use shift::shift;
 pub use work_out::{work_out, Worked};
 

@@ -58,33 +58,71 @@ fn phase_need(junction: &Junction, phase: &Phase, cycle: i64) -> i64 {
     phase.streams.iter().map(|&s| need(&junction.stream(s).kind, cycle)).max().expect("a phase has streams")
 }
 
-/// L at a cycle: M - 1 for phases with cars, need + M for others (30, 31).
-pub fn lost_time(junction: &Junction, phases: &[Phase], cycle: i64) -> i64 {
-    phases.iter().map(|p| if p.has_cars { p.m - 1 } else { phase_need(junction, p, cycle) + p.m }).sum()
+/// What the lost time and the greens of a length go by: a phase with its largest need at that length.
+#[derive(Clone, Copy, PartialEq, Eq, Debug)]
+pub struct PhaseAt {
+    pub has_cars: bool,
+    pub y: i64,
+    pub m: i64,
+    pub need: i64,
 }
 
-/// T0: counted up from 1. Trams are taken at 10 s, which is their need at cycle 1.
+fn phases_at(junction: &Junction, phases: &[Phase], cycle: i64) -> Vec<PhaseAt> {
+    let at = |p: &Phase| PhaseAt { has_cars: p.has_cars, y: p.y, m: p.m, need: phase_need(junction, p, cycle) };
+    phases.iter().map(at).collect()
+}
+
+/// L at a cycle: M - 1 for phases with cars, need + M for others (30, 31).
+pub fn lost_time(junction: &Junction, phases: &[Phase], cycle: i64) -> i64 {
+    lost_time_at(&phases_at(junction, phases, cycle))
+}
+
+pub fn lost_time_at(phases: &[PhaseAt]) -> i64 {
+    phases.iter().map(|p| if p.has_cars { p.m - 1 } else { p.need + p.m }).sum()
+}
+
+/// T0. Trams are taken at 10 s, which is their need at cycle 1.
 pub fn first_length(junction: &Junction, phases: &[Phase]) -> i64 {
     let y: i64 = phases.iter().map(|p| p.y).sum();
     let l = lost_time(junction, phases, 1);
     let by_33 = junction.streams.iter().any(|s| s.is_pedestrian_or_tram());
+    first_length_by(if by_33 { enough_by_33 } else { enough_by_32 }, y, l)
+}
+
+/// The least length, counted up from 1, that is enough.
+pub fn first_length_by(enough: fn(i64, i64, i64) -> bool, y: i64, l: i64) -> i64 {
     let mut t = 1;
-    loop {
-        let enough = if by_33 {
-            t * t * (10_000 - y) >= 1_200_000 * l // (33)
-        } else {
-            t * (10_000 - y) >= 15_000 * l + 50_000 // (32)
-        };
-        if enough {
-            return t;
-        }
+    while !enough(t, y, l) {
         t += 1;
     }
+    t
+}
+
+/// (32)
+pub fn enough_by_32(t: i64, y: i64, l: i64) -> bool {
+    t * (10_000 - y) >= 15_000 * l + 50_000
+}
+
+/// (33)
+pub fn enough_by_33(t: i64, y: i64, l: i64) -> bool {
+    t * t * (10_000 - y) >= 1_200_000 * l
 }
 
 /// The plan for a length T, if T is not below L and no green is below 1. It is not judged yet.
 pub fn plan_for(junction: &Junction, phases: &[Phase], t: i64) -> Option<Plan> {
-    let l = lost_time(junction, phases, t);
+    let of_phases = greens_at(&phases_at(junction, phases, t), t)?;
+    let mut greens = vec![Green { start: 0, length: 0 }; junction.streams.len()];
+    for (p, green) in phases.iter().zip(of_phases) {
+        for &s in &p.streams {
+            greens[s - 1] = green;
+        }
+    }
+    Some(Plan { cycle: t as u16, greens })
+}
+
+/// The green of each phase for a length T, if T is not below L and no green is below 1.
+pub fn greens_at(phases: &[PhaseAt], t: i64) -> Option<Vec<Green>> {
+    let l = lost_time_at(phases);
     if t < l {
         return None;
     }
@@ -98,20 +136,18 @@ pub fn plan_for(junction: &Junction, phases: &[Phase], t: i64) -> Option<Plan> {
         }
     }
     assert_eq!(left_over, 0);
-    let mut greens = vec![Green { start: 0, length: 0 }; junction.streams.len()];
+    let mut greens = vec![];
     let mut start = 0;
     for (p, e) in phases.iter().zip(&effective) {
-        let green = if p.has_cars { e - 1 } else { phase_need(junction, p, t) }; // (36)
-        if green < 1 {
+        let length = if p.has_cars { e - 1 } else { p.need }; // (36)
+        if length < 1 {
             return None;
         }
-        for &s in &p.streams {
-            greens[s - 1] = Green { start: start as u16, length: green as u16 };
-        }
-        start += green + p.m;
+        greens.push(Green { start: start as u16, length: length as u16 });
+        start += length + p.m;
     }
     assert_eq!(start, t, "greens and M fill the cycle (37)");
-    Some(Plan { cycle: t as u16, greens })
+    Some(greens)
 }
 
 /// Works out a plan and writes the plan file into the lent buffer. A refusal alters none of its bytes.

@@ -4,15 +4,16 @@ use calls::*;
 use givendra_sys::{JunctionAnswer, PlanAnswer, GIVENDRA_RELEASE};
 use model::annex::{crossing_quotient, need as model_need, packet_quotient, saturation, y_of, TABLE_3};
 use model::delay::{delay_when_accepted, figures as delay_figures, Delay, LEVELS};
-use model::exact::Time;
+use model::exact::{whole, Time};
 use model::faults::*;
 use model::generate::*;
 use model::judge::rules;
 use model::junction::{is_period, two, Junction, Kind};
+use model::portable::{capacities_met, cycle_of, needed_waiting, needs_met, phases, stretches, Works, NUMBERS, SPEEDS};
 use model::random::{seed, Random};
 use model::shift::{shift_for, start_of};
 use model::times::{accelerating, at_full_speed, entry, leaving, reaching, zone_distances, Entries};
-use model::work_out::{search, write, Worked};
+use model::work_out::{enough_by_32, first_length_by, greens_at, lost_time_at, search, write, Worked};
 use model::{meaning, read_plan, Plan, Refusal};
 
 /// The library is of the release that `givendra-sys` declares.
@@ -1024,4 +1025,188 @@ fn distances_of_one_direction() {
     hits.print();
     hits.at_least(5_000, "several zones", &[0]);
     hits.at_least(10_000, "back changes", &[0]);
+}
+
+// ---- road works with portable signals
+
+/// What is seen where a cycle is looked for: what failed first at the length before it or, without one, at 180; T0; the second left
+/// over; and which waiting length is not above the needed one, or is equal to it.
+const SEARCH_COLUMNS: [&str; 11] = [
+    "after a green", "after a need", "after a capacity", "T0 180", "T0 181", "a second left", "no second left", "short 1", "short 2",
+    "equal 1", "equal 2",
+];
+/// The numbers by which road works differ from accepted ones.
+const NUMBER_COLUMNS: [&str; NUMBERS] = ["stretch", "speed", "flow 1", "S 1", "waiting 1", "flow 2", "S 2", "waiting 2"];
+
+/// The library's answer is the model's; the number of the refusal.
+fn check_works(hits: &mut Hits, works: &Works) -> u8 {
+    let model = portable_answer(&model::portable(works));
+    same_works("portable", portable(works), model, works);
+    hits.hit("portable", model.refusal);
+    model.refusal
+}
+
+/// How the cycle was found, or why there is none.
+fn count_search(hits: &mut Hits, works: &Works, refusal: u8) {
+    if [21, 25, 26].contains(&refusal) {
+        return;
+    }
+    let phases = phases(works);
+    let y = phases.iter().map(|p| p.y).sum();
+    let l = lost_time_at(&phases);
+    let t0 = first_length_by(enough_by_32, y, l);
+    if [180, 181].contains(&t0) {
+        hits.hit(if t0 == 180 { "T0 180" } else { "T0 181" }, refusal);
+    }
+    let found = cycle_of(works);
+    let before = found.as_ref().map_or(180, |c| c.cycle - 1);
+    if before >= t0 {
+        hits.hit(
+            match greens_at(&phases, before) {
+                None => "after a green",
+                Some(greens) if !needs_met([greens[0], greens[1]]) => "after a need",
+                Some(greens) => {
+                    assert!(!capacities_met(works, before, [greens[0], greens[1]]), "{works:?}");
+                    "after a capacity"
+                }
+            },
+            refusal,
+        );
+    }
+    let Ok(found) = found else { return };
+    let whole_shares = phases.iter().all(|p| p.y * (found.cycle - l) % y == 0);
+    hits.hit(if whole_shares { "no second left" } else { "a second left" }, refusal);
+    let waiting = works.approaches.map(|a| (whole(a.waiting as i128), needed_waiting(&a, found.cycle)));
+    for (i, (available, needed)) in waiting.into_iter().enumerate() {
+        // where the other approach is no reason for 27
+        let other = waiting[1 - i];
+        if available <= needed && other.0 > other.1 {
+            hits.hit(["short 1", "short 2"][i], refusal);
+            if available == needed {
+                hits.hit(["equal 1", "equal 2"][i], refusal);
+            }
+        }
+    }
+}
+
+/// Where a number that is cut would be answered otherwise.
+fn count_cuts(hits: &mut Hits, works: &Works, refusal: u8) {
+    for (column, bits) in CUT_COLUMNS.iter().zip([8, 16, 32, 63]) {
+        for (which, number) in works.numbers().into_iter().enumerate() {
+            if number >> bits > 0 && [0, 1, 4, 7].contains(&which) | (number > 9_999) {
+                let mut cut = works.numbers();
+                cut[which] %= 1 << bits;
+                if number_and_place(&model::portable(&Works::of(cut))).0 != refusal {
+                    hits.hit(column, refusal);
+                }
+            }
+        }
+    }
+}
+
+/// Road works of every sort, and each number of accepted ones changed in turn.
+#[test]
+fn road_works() {
+    let mut r = Random::new(seed("road_works", 33));
+    let mut hits = Hits::new(&[&["portable"][..], &CUT_COLUMNS, &NUMBER_COLUMNS].concat());
+    let mut searches = Hits::new(&SEARCH_COLUMNS);
+    for _ in 0..WORKS {
+        let works = some_works(&mut r);
+        let refusal = check_works(&mut hits, &works);
+        count_search(&mut searches, &works, refusal);
+        count_cuts(&mut hits, &works, refusal);
+        if refusal == 0 && r.one_in(20) {
+            for (which, column) in NUMBER_COLUMNS.iter().enumerate() {
+                let number = works.numbers()[which];
+                let beside = [0, number.saturating_sub(1), number.saturating_add(1), number.saturating_add(10), number.saturating_sub(10)];
+                let wider = [8, 16, 32, 63].map(|bits| number ^ (1 << bits));
+                let other = other_number(&mut r, number);
+                for to in beside.into_iter().chain(wider).chain([9_999, 10_000, usize::MAX, other]) {
+                    let mut numbers = works.numbers();
+                    numbers[which] = to;
+                    let refusal = check_works(&mut hits, &Works::of(numbers));
+                    hits.hit(column, refusal);
+                }
+            }
+        }
+    }
+    hits.print();
+    searches.print();
+    hits.at_least(20_000, "portable", &[0]);
+    hits.at_least(1_000, "portable", &[21, 22, 25, 26, 27]);
+    for column in CUT_COLUMNS {
+        hits.at_least(1_000, column, &[0, 25, 26]);
+    }
+    for column in ["stretch", "speed"] {
+        hits.at_least(1_000, column, &[0, 25]);
+    }
+    for column in ["flow 1", "S 1", "flow 2", "S 2"] {
+        hits.at_least(1_000, column, &[0, 26]);
+        hits.at_least(200, column, &[21]);
+    }
+    for column in ["waiting 1", "waiting 2"] {
+        hits.at_least(1_000, column, &[0, 27]);
+    }
+    searches.at_least(1_000, "after a green", &[22]);
+    searches.at_least(1_000, "after a need", &[0, 22, 27]);
+    searches.at_least(200, "after a capacity", &[0]);
+    searches.at_least(50, "after a capacity", &[22]);
+    searches.at_least(200, "T0 180", &[0]);
+    searches.at_least(200, "T0 181", &[22]);
+    searches.at_least(1_000, "a second left", &[0, 27]);
+    searches.at_least(1_000, "no second left", &[0, 27]);
+    for column in ["short 1", "short 2", "equal 1", "equal 2"] {
+        searches.at_least(1_000, column, &[27]);
+    }
+}
+
+const WORKS: usize = 200_000;
+
+/// Every place of the annex's table, with flows of every sort.
+#[test]
+fn every_stretch_and_speed() {
+    let mut r = Random::new(seed("every_stretch_and_speed", 34));
+    let mut hits = Hits::new(&["portable"]);
+    for stretch in stretches() {
+        for speed in SPEEDS {
+            let least = hits.of("portable", 0) + 20;
+            check_works(&mut hits, &Works::of([stretch, speed, 90, 1_800, 200, 60, 1_500, 200]));
+            while hits.of("portable", 0) < least {
+                check_works(&mut hits, &Works { stretch, speed, ..listed_works(&mut r) });
+            }
+        }
+    }
+    // every stretch and speed beside them
+    for stretch in 0..=700 {
+        for speed in 0..=320 {
+            check_works(&mut hits, &Works::of([stretch, speed, 90, 1_800, 200, 60, 1_500, 200]));
+        }
+    }
+    hits.print();
+    hits.at_least(30 * 4 * 21, "portable", &[0]);
+    hits.at_least(701 * 321 - 120, "portable", &[25]);
+}
+
+/// The library's planner and its answer for road works are one: the same S, flows and M give the same cycle and greens.
+#[test]
+fn road_works_as_junctions() {
+    let mut r = Random::new(seed("road_works_as_junctions", 35));
+    let mut hits = Hits::new(&["portable"]);
+    for _ in 0..8_000 {
+        let (works, junction) = works_as_junction(&mut r);
+        let answer = portable(&works);
+        let file = Lent::new(&mut r, &junction.to_file());
+        let mut buffer = Lent::new(&mut r, &[0; 21]);
+        let planned = work_out(&file, &mut buffer);
+        same_works("portable and work_out", (answer.refusal, answer.cycle), (planned.refusal, planned.cycle), &works);
+        if answer.refusal == 0 {
+            let plan = read_plan(buffer.bytes(), &junction).expect("well-formed");
+            let greens = [(answer.first_start, answer.first_length), (answer.second_start, answer.second_length)];
+            same_works("greens", greens, [1, 2].map(|s| (plan.green(s).start, plan.green(s).length)), &works);
+        }
+        hits.hit("portable", answer.refusal);
+    }
+    hits.print();
+    hits.at_least(1_000, "portable", &[0]);
+    hits.at_least(200, "portable", &[21, 22]);
 }

@@ -1,13 +1,15 @@
 //! The marked figures, the tables and the whole case of document 01, with figure 6 as request 2026-02 changes it and the period 1
-//! of request 2026-04 in the whole case.
+//! of request 2026-04 in the whole case; the annex's table of request 2026-07.
 mod common;
 use common::*;
 use model::annex::*;
 use model::cases::bytes_of;
+use model::exact::fraction;
 use model::junction::*;
+use model::portable::{exact_clearing_time, stretches, table, Works, SPEEDS};
 use model::times::{entry, Entries};
 use model::work_out::{first_length, lost_time, phases};
-use model::{judge, work_out};
+use model::{judge, portable, work_out};
 
 /// The entry from the first stream to the second, at one zone.
 fn to(one: Stream, two: Stream, l: u16, r: u16) -> i128 {
@@ -84,6 +86,70 @@ fn table_1_at_every_width() {
         let listed = TABLE_1.iter().rev().find(|row| row.0 <= width).unwrap().1;
         let wanted = if width <= 540 { listed } else { width as i64 * 525 / 100 };
         assert_eq!(base_flow(&Car { width, ..CAR }), wanted, "width {width}");
+    }
+}
+
+/// The table of part B of the annex, typed from its page: the stretch and the clearing length in m, then t and L for 25, 30, 35 and
+/// 40 km/h, in tenths of a second (it prints seconds with one decimal).
+const ANNEX_PORTABLE: [(usize, usize, [i64; 4], [i64; 4]); 30] = [
+    (10, 30, [43, 36, 31, 27], [126, 112, 102, 94]),
+    (20, 40, [58, 48, 41, 36], [155, 136, 122, 112]),
+    (30, 50, [72, 60, 51, 45], [184, 160, 143, 130]),
+    (40, 60, [86, 72, 62, 54], [213, 184, 163, 148]),
+    (50, 70, [101, 84, 72, 63], [242, 208, 184, 166]),
+    (60, 80, [115, 96, 82, 72], [270, 232, 205, 184]),
+    (70, 90, [130, 108, 93, 81], [299, 256, 225, 202]),
+    (80, 100, [144, 120, 103, 90], [328, 280, 246, 220]),
+    (90, 110, [158, 132, 113, 99], [357, 304, 266, 238]),
+    (100, 120, [173, 144, 123, 108], [386, 328, 287, 256]),
+    (110, 130, [187, 156, 134, 117], [414, 352, 307, 274]),
+    (120, 140, [202, 168, 144, 126], [443, 376, 328, 292]),
+    (130, 150, [216, 180, 154, 135], [472, 400, 349, 310]),
+    (140, 160, [230, 192, 165, 144], [501, 424, 369, 328]),
+    (150, 170, [245, 204, 175, 153], [530, 448, 390, 346]),
+    (160, 180, [259, 216, 185, 162], [558, 472, 410, 364]),
+    (170, 190, [274, 228, 195, 171], [587, 496, 431, 382]),
+    (180, 200, [288, 240, 206, 180], [616, 520, 451, 400]),
+    (190, 210, [302, 252, 216, 189], [645, 544, 472, 418]),
+    (200, 220, [317, 264, 226, 198], [674, 568, 493, 436]),
+    (210, 230, [331, 276, 237, 207], [702, 592, 513, 454]),
+    (220, 240, [346, 288, 247, 216], [731, 616, 534, 472]),
+    (230, 250, [360, 300, 257, 225], [760, 640, 554, 490]),
+    (240, 260, [374, 312, 267, 234], [789, 664, 575, 508]),
+    (250, 270, [389, 324, 278, 243], [818, 688, 595, 526]),
+    (260, 280, [403, 336, 288, 252], [846, 712, 616, 544]),
+    (270, 290, [418, 348, 298, 261], [875, 736, 637, 562]),
+    (280, 300, [432, 360, 309, 270], [904, 760, 657, 580]),
+    (290, 310, [446, 372, 319, 279], [933, 784, 678, 598]),
+    (300, 320, [461, 384, 329, 288], [962, 808, 698, 616]),
+];
+
+/// The computed table is the printed one.
+#[test]
+fn table_of_portable_signals_is_the_annexes() {
+    assert!(stretches().eq(ANNEX_PORTABLE.map(|row| row.0)));
+    assert_eq!(SPEEDS, [25, 30, 35, 40]);
+    for (stretch, clearing_length, t, l) in ANNEX_PORTABLE {
+        assert_eq!(clearing_length, stretch + 20);
+        for (i, speed) in SPEEDS.into_iter().enumerate() {
+            assert_eq!(table(stretch, speed), (t[i], l[i]), "{stretch} m, {speed} km/h");
+            assert_eq!(exact_clearing_time(stretch, speed), fraction(36 * clearing_length as i128, 10 * speed as i128));
+        }
+    }
+}
+
+/// t is answered from the table, and L is the table's, at each of its places; M stands between the two greens.
+#[test]
+fn answers_at_every_place_of_the_table() {
+    for (stretch, clearing_length, t, l) in ANNEX_PORTABLE {
+        for (i, speed) in SPEEDS.into_iter().enumerate() {
+            let works = Works::of([stretch, speed, 90, 1_800, 200, 60, 1_500, 200]);
+            let answer = portable(&works).expect("a cycle");
+            assert_eq!((answer.clearing_time, answer.lost_time), (t[i], l[i]), "{works:?}");
+            // 3 + 3.6 x clearing length/speed, rounded up
+            let m = (36 * clearing_length + 30 * speed).div_ceil(10 * speed) as u16;
+            assert_eq!(answer.greens[1].start - answer.greens[0].length, m, "{works:?}");
+        }
     }
 }
 

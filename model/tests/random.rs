@@ -1,4 +1,4 @@
-//! Random junctions and plans: the judge against the meaning, the planner against the judge.
+//! Random junctions, plans and road works: the judge against the meaning, the planner against the judge.
 use model::annex::{crossing_quotient, need, packet_quotient, saturation};
 use model::delay::{delay_when_accepted, figures, Delay, LEVELS};
 use model::exact::{fraction, whole, Fraction, Time};
@@ -7,9 +7,12 @@ use model::generate::*;
 use model::judge::rules;
 use model::junction::{is_period, read_junction, two, Count, IslandCrossing, Junction, Kind, Stream, Tram, Zone};
 use model::meaning::meaning_over;
+use model::plan::Green as PlanGreen;
+use model::portable::{self, portable, Works};
 use model::random::{seed, Random};
 use model::shift::{shift_for, start_of};
 use model::times::{entry, leaving, reaching, Entries};
+use model::work_out::{greens_at, search};
 use model::{delay, judge, meaning, read_plan, shift, work_out, Plan, Refusal};
 use std::collections::BTreeMap;
 
@@ -1080,6 +1083,150 @@ fn refused_shifts_change_nothing() {
     }
     println!("{answers:?}");
     for number in (0..=9).chain([11, 12, 13, 24]) {
+        assert!(answers[&number] > 100, "{answers:?}");
+    }
+}
+
+// ---- road works with portable signals
+
+/// What an accepted plan means on the stretch: of the greens of three cycles, each two of the two approaches are 3 + t or more apart,
+/// t as it is; each green is 8 s or more, and carries its flow.
+fn passes(works: &Works, cycle: i64, greens: &[PlanGreen]) -> bool {
+    let apart = whole(3) + fraction(36 * (works.stretch as i128 + 20), 10 * works.speed as i128);
+    let times = |i: usize, k: i64| {
+        let begin = greens[i].start as i64 + k * cycle;
+        (begin, begin + greens[i].length as i64)
+    };
+    let pairs = (0..3).flat_map(|k| (0..3).map(move |m| (k, m)));
+    let clear = pairs.into_iter().all(|(k, m)| {
+        let (one, two) = (times(0, k), times(1, m));
+        let gap = if one.1 <= two.0 { two.0 - one.1 } else { one.0 - two.1 };
+        whole(gap as i128) >= apart
+    });
+    let carried = works.approaches.iter().zip(greens).all(|(a, g)| {
+        // vehicles of a cycle: those that come, and those that go in the green and one second
+        fraction(a.flow as i128 * cycle as i128, 3_600) <= fraction(a.s as i128 * (g.length as i128 + 1), 3_600)
+    });
+    greens.iter().all(|g| g.length >= 8) && carried && clear
+}
+
+/// Is there a green of each approach at this length, and do the greens pass?
+fn length_works(works: &Works, t: i64) -> bool {
+    greens_at(&portable::phases(works), t).is_some_and(|greens| passes(works, t, &greens))
+}
+
+/// T0 by (32), by division.
+fn first_length_of(works: &Works) -> i64 {
+    let y: i64 = works.approaches.iter().map(|a| (10_000 * a.flow as i64 + a.s as i64 - 1) / a.s as i64).sum();
+    let tenths_of_t = 36 * (works.stretch as i64 + 20);
+    let speed = works.speed as i64;
+    let m = (30 * speed + tenths_of_t + 10 * speed - 1) / (10 * speed);
+    (30_000 * (m - 1) + 50_000 + 10_000 - y - 1) / (10_000 - y)
+}
+
+/// Every answer about road works, by what the papers say of it.
+#[test]
+fn answers_for_road_works() {
+    let mut r = Random::new(seed("answers_for_road_works", 36));
+    let mut answers: BTreeMap<u8, usize> = BTreeMap::new();
+    let (mut at_once, mut later, mut without_a_length) = (0, 0, 0);
+    for _ in 0..60_000 {
+        let works = some_works(&mut r);
+        let answer = portable(&works);
+        let refusal = answer.err().map_or(0, |e| e.number);
+        assert!(answer.is_ok() || answer == Err(Refusal { number: refusal, place: 0 }), "{works:?}");
+        *answers.entry(refusal).or_default() += 1;
+        let listed = works.stretch % 10 == 0 && (1..=30).contains(&(works.stretch / 10)) && [25, 30, 35, 40].contains(&works.speed);
+        assert_eq!(refusal == 25, !listed, "{works:?}");
+        if refusal == 25 {
+            continue;
+        }
+        let in_range = works.approaches.iter().all(|a| a.flow > 0 && a.flow < 10_000 && a.s > 0 && a.s < 10_000);
+        assert_eq!(refusal == 26, !in_range, "{works:?}");
+        if refusal == 26 {
+            continue;
+        }
+        let y: i128 = works.approaches.iter().map(|a| fraction(10_000 * a.flow as i128, a.s as i128).up()).sum();
+        assert_eq!(refusal == 21, y >= 10_000, "{works:?}");
+        if refusal == 21 {
+            continue;
+        }
+        let first = first_length_of(&works);
+        let cycle = (first..=180).find(|&t| length_works(&works, t));
+        assert_eq!(refusal == 22, cycle.is_none(), "{works:?}");
+        let Some(cycle) = cycle else {
+            without_a_length += (first <= 180) as usize;
+            continue;
+        };
+        let enough = works.approaches.iter().all(|a| a.waiting as u128 * 600 > a.flow as u128 * cycle as u128);
+        assert_eq!(refusal == 27, !enough, "{works:?}");
+        let Ok(answer) = answer else { continue };
+        assert_eq!(answer.cycle, cycle, "{works:?}");
+        if cycle == first { at_once += 1 } else { later += 1 }
+        let [one, two] = answer.greens;
+        assert!(passes(&works, cycle, &answer.greens), "{works:?}");
+        // the greens and twice M fill the cycle
+        let m = two.start as i64 - one.length as i64;
+        assert_eq!((one.start, one.length as i64 + two.length as i64 + 2 * m), (0, cycle), "{works:?}");
+        let apart = whole(3) + fraction(36 * (works.stretch as i128 + 20), 10 * works.speed as i128);
+        assert!(whole(m as i128) >= apart && whole(m as i128 - 1) < apart, "{works:?}");
+        // less than half a tenth from t, and from 2t + 4
+        let t = apart - whole(3);
+        let off = |tenths: i64, exact: Fraction| whole(tenths as i128) - whole(10) * exact;
+        for off in [off(answer.clearing_time, t), off(answer.lost_time, whole(2) * t + whole(4))] {
+            assert!(off < fraction(1, 2) && -off < fraction(1, 2), "{works:?}");
+        }
+    }
+    println!("{answers:?}, at T0 {at_once}, later {later}, no length from T0 to 180 {without_a_length}");
+    for number in [0, 21, 22, 25, 26, 27] {
+        assert!(answers[&number] > 1_000, "{answers:?}");
+    }
+    assert!(at_once > 1_000 && later > 1_000 && without_a_length > 1_000);
+}
+
+/// The waiting lengths decide 27 alone: with others the answer is the same, or one of both is 27.
+#[test]
+fn waiting_lengths_change_no_plan() {
+    let mut r = Random::new(seed("waiting_lengths", 37));
+    let (mut same, mut refused) = (0, 0);
+    for _ in 0..10_000 {
+        let works = some_works(&mut r);
+        let mut much = works;
+        for approach in &mut much.approaches {
+            approach.waiting = usize::MAX;
+        }
+        let (answer, with_much) = (portable(&works), portable(&much));
+        assert_ne!(with_much, Err(Refusal { number: 27, place: 0 }), "{works:?}");
+        if answer == Err(Refusal { number: 27, place: 0 }) {
+            assert!(with_much.is_ok(), "{works:?}");
+            refused += 1;
+        } else {
+            assert_eq!(answer, with_much, "{works:?}");
+            same += 1;
+        }
+    }
+    println!("same {same}, refused 27 {refused}");
+    assert!(same > 1_000 && refused > 1_000);
+}
+
+/// A junction of two cars with the same flows, S and M gets the same cycle and greens.
+#[test]
+fn road_works_are_worked_out_as_junctions() {
+    let mut r = Random::new(seed("road_works_as_junctions", 38));
+    let mut answers: BTreeMap<u8, usize> = BTreeMap::new();
+    for _ in 0..4_000 {
+        let (works, junction) = works_as_junction(&mut r);
+        let answer = portable(&works);
+        let planned = search(&junction, &Entries::of(&junction));
+        let plan = planned.as_ref().map(|w| (w.cycle, w.plan.greens.clone())).map_err(|e| *e);
+        assert_eq!(answer.map(|p| (p.cycle, p.greens.to_vec())), plan, "{works:?}");
+        if let Ok(found) = portable::cycle_of(&works) {
+            assert_eq!(found.first_length, planned.expect("a plan").first_length, "{works:?}");
+        }
+        *answers.entry(answer.err().map_or(0, |e| e.number)).or_default() += 1;
+    }
+    println!("{answers:?}");
+    for number in [0, 21, 22] {
         assert!(answers[&number] > 100, "{answers:?}");
     }
 }

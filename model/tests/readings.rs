@@ -1,4 +1,4 @@
-//! Every example of the readings that concerns the base, and what requests 2026-01 to 2026-06 add to it.
+//! Every example of the readings that concerns the base, and what requests 2026-01 to 2026-07 add to it.
 mod common;
 use common::*;
 use model::annex::need;
@@ -6,9 +6,10 @@ use model::cases::bytes_of;
 use model::delay::{figures, Delay, LEVELS};
 use model::exact::{fraction, Time};
 use model::junction::*;
+use model::portable::{intergreen, stretches, table, Works, SPEEDS};
 use model::times::{entry, leaving, reaching, Entries};
 use model::work_out::{first_length, lost_time, phases, plan_for};
-use model::{delay, judge, meaning, read_junction, read_plan, shift, work_out, Refusal};
+use model::{delay, judge, meaning, portable, read_junction, read_plan, shift, work_out, Refusal};
 use std::ops::Range;
 
 fn reads(text: &str) -> Result<(), Refusal> {
@@ -1104,4 +1105,193 @@ fn shifted_in_every_stream() {
     let mut plan = plan_file(180, &greens(0));
     assert_eq!(shift(&common::junction(&sixteen, &[], &counts).to_file(), &mut plan, 170), Ok(()));
     assert_eq!(plan, plan_file(180, &greens(170)));
+}
+
+// ---- request 2026-07: portable signals for road works
+
+/// t and L in tenths, the cycle, and start and length of approaches 1 and 2; or the number of the refusal, whose place is 0.
+fn at_works(numbers: [usize; 8]) -> Result<([i64; 3], [(u16, u16); 2]), u8> {
+    match portable(&Works::of(numbers)) {
+        Ok(p) => Ok(([p.clearing_time, p.lost_time, p.cycle], p.greens.map(|g| (g.start, g.length)))),
+        Err(refusal) => {
+            assert_eq!(refusal.place, 0, "{numbers:?}");
+            Err(refusal.number)
+        }
+    }
+}
+
+/// 100 m at 30 km/h: 400 E/h of 1,800 and 300 of 1,800. The needed waiting lengths are 400 x 92/600 = 61 1/3 and 300 x 92/600 = 46.
+const WORKS: [usize; 8] = [100, 30, 400, 1_800, 62, 300, 1_800, 47];
+
+/// These works with some of the numbers, named by their places from 0, changed.
+fn changed_works(changes: &[(usize, usize)]) -> Result<([i64; 3], [(u16, u16); 2]), u8> {
+    let mut numbers = WORKS;
+    for &(which, to) in changes {
+        numbers[which] = to;
+    }
+    at_works(numbers)
+}
+
+#[test]
+fn road_works() {
+    // t = 3.6 x 120/30 = 14.4, L = 32.8. M is 17.4 rounded up, 18, and L of the planner 34. y is 2,222.2 and 1,666.7 rounded up, Y 3,890.
+    // (32): T x 6,110 >= 560,000: 92 (91 x 6,110 is 556,010). Of 58 s, 33.1 and 24.9: 33 and 24, one left over: 34 and 24.
+    assert_eq!(at_works(WORKS), Ok(([144, 328, 92], [(0, 33), (51, 23)])));
+    // the other way round the second left over goes to the other: 25 and 33
+    let turned = [100, 30, 300, 1_800, 47, 400, 1_800, 62];
+    assert_eq!(at_works(turned), Ok(([144, 328, 92], [(0, 24), (42, 32)])));
+    // equal approaches: Y 8,888, (32): T x 1,112 >= 200,000: 180. 170 s, 85 and 85, none left over.
+    assert_eq!(at_works([10, 40, 2_222, 5_000, 667, 4_443, 9_999, 1_333]), Ok(([27, 94, 180], [(0, 84), (90, 84)])));
+    // need: y 811 and 312, (32): T x 8,877 >= 470,000: 53. Of 25 s, 18.1 and 6.9; the first green of 8 for approach 2 is at
+    // 61: of 33 s, 23.8 and 9.2.
+    assert_eq!(at_works([80, 30, 150, 1_850, 300, 60, 1_925, 300]), Ok(([120, 280, 61], [(0, 23), (38, 8)])));
+    // capacity: y 8,269 and 549, T0 170. Of 160 s, 150.04 and 9.96: 151 and 9, and 102 x 170 = 17,340 is above 1,861 x 9 = 16,749.
+    assert_eq!(at_works([10, 40, 1_691, 2_045, 482, 102, 1_861, 30]), Ok(([27, 94, 171], [(0, 150), (156, 9)])));
+    // the other way round approach 1 has 10 of the 160 s, and T0 works
+    assert_eq!(at_works([10, 40, 102, 1_861, 29, 1_691, 2_045, 480]), Ok(([27, 94, 170], [(0, 9), (15, 149)])));
+}
+
+/// M is by the unrounded t: at 140 m and 25 km/h t is 23.04, which the table rounds to 23.0. That is the one place of the table where it
+/// matters.
+#[test]
+fn m_by_the_unrounded_t() {
+    // M 27 and L 52, and not 26 and 50; y 1,622 and 1,559, (32): T x 6,819 >= 830,000: 122. Of 70 s, 35.7 and 34.3: 36 and 34.
+    assert_eq!(at_works([140, 25, 300, 1_850, 300, 300, 1_925, 300]), Ok(([230, 501, 122], [(0, 35), (62, 33)])));
+    let mut differ = vec![];
+    for stretch in stretches() {
+        for speed in SPEEDS {
+            let from_the_table = 3 + (table(stretch, speed).0 + 9) / 10;
+            if from_the_table != intergreen(stretch, speed) {
+                differ.push((stretch, speed, from_the_table, intergreen(stretch, speed)));
+            }
+        }
+    }
+    assert_eq!(differ, [(140, 25, 26, 27)]);
+    // where t is whole, M is 3 more
+    for (stretch, speed, t) in [(30, 30, 6), (80, 30, 12), (80, 40, 9), (130, 30, 18), (180, 40, 18), (230, 25, 36), (280, 40, 27)] {
+        assert_eq!((table(stretch, speed).0, intergreen(stretch, speed)), (10 * t, t + 3));
+    }
+    assert_eq!((intergreen(10, 40), intergreen(300, 25)), (6, 50));
+}
+
+/// The answered L is the table's, that of the planner 2 x (M - 1): the two are the same where t is whole, and nowhere else.
+#[test]
+fn two_sorts_of_lost_time() {
+    // with the table's 32.8 s (32) would give 89 s: T x 6,110 >= 542,000
+    assert_eq!(at_works(WORKS).map(|(numbers, _)| (numbers[1], numbers[2])), Ok((328, 92)));
+    for stretch in stretches() {
+        for speed in SPEEDS {
+            let (t, l) = table(stretch, speed);
+            let of_the_planner = 20 * (intergreen(stretch, speed) - 1);
+            // M is at least 3 + t and below 4 + t, so that 2 x (M - 1) is at least 2t + 4, and below 2t + 6
+            assert!(l - 1 < of_the_planner && of_the_planner < l + 21, "{stretch} {speed}");
+            assert_eq!(l == of_the_planner, 36 * (stretch + 20) % (10 * speed) == 0, "{stretch} {speed}");
+            // L is by the unrounded t too
+            assert!((l - 2 * t - 40).abs() <= 1, "{stretch} {speed}");
+        }
+    }
+    // 20 m and 25 km/h: t 5.76, L 15.52
+    assert_eq!(table(20, 25), (58, 155));
+}
+
+/// 25: a stretch from 10 to 300 by tens, and one of four speeds.
+#[test]
+fn listed_stretches_and_speeds() {
+    let wide = [1 << 16, 1 << 32, 1 << 63, usize::MAX - 355];
+    let light = |stretch, speed| at_works([stretch, speed, 90, 1_800, 200, 60, 1_500, 200]).map(|_| ());
+    for stretch in (0..=700).chain(wide.map(|w| w + 100)) {
+        let listed = stretch > 0 && stretch <= 300 && stretch % 10 == 0;
+        assert_eq!(light(stretch, 30), if listed { Ok(()) } else { Err(25) }, "{stretch}");
+    }
+    for speed in (0..=700).chain(wide.map(|w| w + 30)) {
+        let listed = [25, 30, 35, 40].contains(&speed);
+        assert_eq!(light(100, speed), if listed { Ok(()) } else { Err(25) }, "{speed}");
+    }
+}
+
+/// 26: each flow and each S from 1 to 9,999.
+#[test]
+fn flows_and_saturation_in_range() {
+    for which in [2, 3, 5, 6] {
+        for number in [0, 10_000, 10_001, 65_536, 65_536 + 400, (1 << 32) + 400, (1 << 63) + 400, usize::MAX] {
+            assert_eq!(changed_works(&[(which, number)]), Err(26), "{which} {number}");
+        }
+        for number in [1, 9_999] {
+            assert_ne!(changed_works(&[(which, number)]).err(), Some(26), "{which} {number}");
+        }
+    }
+    // 1 an hour: y 6 and 1,667, and no green for approach 1; both: y 6 and 6, T0 57 (56.07), of 23 s 12 and 11
+    assert_eq!(changed_works(&[(2, 1)]), Err(22));
+    assert_eq!(changed_works(&[(2, 1), (5, 1)]), Ok(([144, 328, 57], [(0, 11), (29, 10)])));
+}
+
+/// 21 at Y of 10,000: y is 10,000 x flow/9,999 rounded up. 22 at Y of 9,999, and where T0 is above 180.
+#[test]
+fn road_works_without_a_cycle() {
+    let by_flows = |one, two| at_works([10, 40, one, 9_999, 9_999, two, 9_999, 9_999]).map(|_| ());
+    assert_eq!(by_flows(4_998, 4_999), Err(22)); // 4,999 and 5,000
+    assert_eq!(by_flows(4_999, 4_999), Err(21)); // 5,000 twice
+    assert_eq!(by_flows(4_999, 5_000), Err(21)); // 5,000 and 5,001
+    assert_eq!(by_flows(9_999, 9_999), Err(21));
+    // L 10: T x 1,112 >= 200,000 from 180 on, T x 1,111 from 181 on
+    let at_180 = |flow| at_works([10, 40, 2_222, 5_000, 9_999, flow, 9_999, 9_999]).map(|(numbers, _)| numbers[2]);
+    assert_eq!((at_180(4_443), at_180(4_444)), (Ok(180), Err(22)));
+    // seven lengths from 174 on, and the capacity of approach 2 is short at each: of 164 to 170 s it has 9.6 to 9.97, and
+    // 152 x 174 = 26,448 is above 2,929 x 9 = 26,361
+    assert_eq!(at_works([10, 40, 2_363, 2_837, 5_000, 152, 2_929, 5_000]), Err(22));
+    // with one of 10 it would do: the other way round there is a cycle
+    assert_eq!(at_works([10, 40, 152, 2_929, 5_000, 2_363, 2_837, 5_000]).map(|(numbers, _)| numbers[2]), Ok(174));
+}
+
+/// 27 is strict, and asked of each approach.
+#[test]
+fn waiting_lengths() {
+    let plan = at_works(WORKS);
+    assert!(plan.is_ok());
+    // 61 1/3 and 46
+    for (waiting, enough) in [(0, false), (46, false), (60, false), (61, false), (62, true), (63, true), (1 << 32, true)] {
+        assert_eq!(changed_works(&[(4, waiting)]), if enough { plan } else { Err(27) }, "{waiting}");
+    }
+    for (waiting, enough) in [(0, false), (1, false), (45, false), (46, false), (47, true), (48, true), (1 << 63, true)] {
+        assert_eq!(changed_works(&[(7, waiting)]), if enough { plan } else { Err(27) }, "{waiting}");
+    }
+    // 600 times these does not fit 64 bits
+    for waiting in [usize::MAX / 600, usize::MAX / 600 + 1, usize::MAX / 600 * 2, usize::MAX] {
+        assert_eq!(changed_works(&[(4, waiting), (7, waiting)]), plan, "{waiting}");
+    }
+    assert_eq!(changed_works(&[(4, 47), (7, 62)]), Err(27));
+    // no shorter cycle is sought: 100 x 64/600 is above 10, and a cycle of 52 s, below T0, would need less than 9 m
+    assert_eq!(at_works([100, 30, 100, 1_800, 9, 100, 1_800, 9]), Err(27));
+    assert_eq!(at_works([100, 30, 100, 1_800, 11, 100, 1_800, 11]), Ok(([144, 328, 64], [(0, 14), (32, 14)])));
+}
+
+/// 25, 26, 21, 22, 27: of any two that fail, the earlier is answered.
+#[test]
+fn questions_of_road_works() {
+    // what fails, in the order of the questions
+    let faults: [(u8, &[(usize, usize)]); 8] = [
+        (25, &[(0, 105)]),
+        (25, &[(1, 45)]),
+        (26, &[(2, 0)]),
+        (26, &[(6, 10_000)]),
+        (21, &[(5, 1_400)]),
+        (22, &[(5, 1_300)]),
+        (27, &[(4, 61)]),
+        (27, &[(7, 46)]),
+    ];
+    for (i, (number, change)) in faults.iter().enumerate() {
+        assert_eq!(changed_works(change), Err(*number), "{change:?}");
+        for (_, later) in &faults[i + 1..] {
+            if later[0].0 != change[0].0 {
+                assert_eq!(changed_works(&[*change, *later].concat()), Err(*number), "{change:?} {later:?}");
+                assert_eq!(changed_works(&[*later, *change].concat()), Err(*number), "{change:?} {later:?}");
+            }
+        }
+    }
+    assert_eq!(at_works([0; 8]), Err(25));
+    assert_eq!(at_works([usize::MAX; 8]), Err(25));
+    assert_eq!(at_works([100, 30, 0, 0, 0, 0, 0, 0]), Err(26));
+    assert_eq!(at_works([100, 30, 1_800, 1_800, 0, 300, 1_800, 0]), Err(21));
+    assert_eq!(at_works([100, 30, 1_300, 1_800, 0, 300, 1_800, 0]), Err(22));
+    assert_eq!(at_works([100, 30, 400, 1_800, 0, 300, 1_800, 0]), Err(27));
 }

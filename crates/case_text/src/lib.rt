@@ -5,11 +5,14 @@ ghost use Prim.Native.Nat.{_<_, _≤_};
 ghost use lib.ListN.{length};
 use libc::STDOUT_FILENO;
 
+// A case's file has at most so many bytes.
+const FILE_ROOM: usize = 131072;
+
 // Room for a case's file.
-pub fn file() -> [u8; 131072]
+pub fn file() -> [u8; FILE_ROOM]
     ensures { λ r. ⌜ 131072 ≡ length r ⌝ }
 {
-    [0; 131072]
+    [0; FILE_ROOM]
 }
 
 // The line that begins at a place, without its end.
@@ -75,6 +78,19 @@ pub fn number(line: &[u8], most: usize) -> usize
     let text = body(line);
     let end = number_end(text);
     at_most(decimal(&text[0..end]), most)
+}
+
+// The number at a place among those after a line's colon, from 0; 0 where there are fewer.
+pub fn number_at(line: &[u8], place: usize) -> usize {
+    let text = body(line);
+    let mut at = past(text, 0);
+    let mut i: usize = 0;
+    while i < place {
+        at = past(text, find(text, at, b' '));
+        i += 1;
+    }
+    let end = find(text, at, b' ');
+    decimal(&text[at..end])
 }
 
 fn at_most(n: usize, most: usize) -> usize
@@ -145,7 +161,7 @@ fn add_word(word: &[u8], file: &mut [u8], size: usize) -> usize
 {
     let star = find(word, 0, b'*');
     let n = add_bytes(&word[0..star], file, size);
-    repeat_last(file, n, at_most(decimal(&word[star..]), 131072))
+    repeat_last(file, n, at_most(decimal(&word[star..]), FILE_ROOM))
 }
 
 fn add_bytes(digits: &[u8], file: &mut [u8], size: usize) -> usize

@@ -2,6 +2,7 @@
 // standard error.
 ghost use Prim.Native.Nat.{_≤_};
 ghost use lib.ListN.{length};
+use decimals::Number;
 use libc::STDERR_FILENO;
 use libc::STDIN_FILENO;
 use libc::STDOUT_FILENO;
@@ -40,6 +41,13 @@ pub fn has_two_names(words: &[u8]) -> bool {
     }
     usage(words);
     false
+}
+
+// The number that argument i is; one that is missing or too long is none.
+pub fn number_argument(i: usize) -> Number {
+    let mut text = io::buffer();
+    let n = os::arg(i, &mut text);
+    decimals::decimal(&text[0..n])
 }
 
 // Tells how the program is called.
@@ -201,6 +209,13 @@ fn digits(n: u64) -> usize {
         return 4;
     }
     5
+}
+
+// Puts a number of tenths as a decimal.
+pub fn put_tenths(out: &mut [u8], at: usize, n: u64) -> usize {
+    let whole = put_number(out, at, n / 10);
+    let point = put(out, whole, b".");
+    put_number(out, point, n % 10)
 }
 
 // Puts a number of ten-thousandths as a decimal, with four digits after the point.

@@ -43,7 +43,7 @@ fn first_tried(j: Junction, q: Phases) -> u16
 }
 
 // A phase's start and green, which are at most 180.
-fn slot_green(slot: Slot) -> Green
+pub fn slot_green(slot: Slot) -> Green
     requires { ⌜ SlotSmall slot ⌝ }
     ensures { λ r. ⌜ r ≡ slotGreen slot ⌝ }
 {

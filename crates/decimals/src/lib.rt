@@ -3,7 +3,7 @@ ghost use mathlib.Core.Path.{_≡_};
 ghost use Prim.Native.Nat.{_-_, _≤_, min};
 ghost use Rattle.decimals.specs.Decimals.{mostDecimal, isDigit, withDigit, decimalOf};
 
-// Above every cycle. A larger number counts as this.
+// Above every cycle, stretch, flow and needed waiting length. A larger number counts as this.
 pub const MOST_DECIMAL: usize = 1000000000000000000;
 
 // Whether a text is a number, and which, at most MOST_DECIMAL.

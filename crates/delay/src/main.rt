@@ -85,20 +85,13 @@ fn put_service(service: Service, out: &mut [u8], at: usize) -> usize {
 fn put_delay(n: u32, out: &mut [u8], at: usize) -> usize {
     let word = put(out, at, b" delay ");
     if n < TENTHS_END {
-        return put_tenths(n, out, word);
+        return console::put_tenths(out, word, n as u64);
     }
     let over = put(out, word, b"over ");
-    put_tenths(TENTHS_END - 1, out, over)
+    console::put_tenths(out, over, (TENTHS_END - 1) as u64)
 }
 
 fn put_saturation(n: u32, out: &mut [u8], at: usize) -> usize {
     let word = put(out, at, b" saturation ");
-    put_tenths(n, out, word)
-}
-
-// A number of tenths as a decimal.
-fn put_tenths(n: u32, out: &mut [u8], at: usize) -> usize {
-    let whole = console::put_number(out, at, (n / 10) as u64);
-    let point = put(out, whole, b".");
-    console::put_number(out, point, (n % 10) as u64)
+    console::put_tenths(out, word, n as u64)
 }

@@ -3,9 +3,9 @@
 --
 -- `reading`, `judgement`, `worked` and `buffer`, `shiftVerdict` and `shiftedPlan` are what `junction_file::read`, `plan_judge::judge`,
 -- `planner::work_out` and `offsets::shift` are proved to answer and to leave in what they are lent, with no `requires`, and to end; `delayVerdict` is
--- the verdict in the answer of `delays::delay` (delays/specs/Answer.antt); `judgeAnswer`, `planAnswer` and the like what the C library's functions are.
--- Questions.antt has the questions in document 01's order, Asked.antt what it is that a verdict `Answers` them, Places.antt the numbers that the
--- paper lists for each entry, with their places.
+-- the verdict in the answer of `delays::delay` (delays/specs/Answer.antt), `portableVerdict` that of `roadworks::work_out`; `judgeAnswer`, `planAnswer`
+-- and the like what the C library's functions are. Questions.antt has the questions in document 01's order, Asked.antt what it is that a verdict
+-- `Answers` them, Places.antt the numbers that the paper lists for each entry, with their places.
 use Prim.Native.Nat.{ℕ, _≤_}
 use mathlib.Core.List.{List}
 use mathlib.Core.Logic.{_↔_, _⊎_}
@@ -23,15 +23,18 @@ use Rattle.planner.specs.WorkingOut.{worked, buffer}
 use Rattle.delays.specs.Answer.{delayVerdict}
 use Rattle.offsets.specs.Refused.{shift-unaltered}
 use Rattle.offsets.specs.Shifting.{shiftVerdict, shiftedPlan}
-use Rattle.givendra.specs.Answers.{judgeAnswer, shiftAnswer, planAnswer, junctionAnswer, intergreenAnswer, needAnswer, saturationAnswer, ratioAnswer, delayAnswer}
+use Rattle.roadworks.specs.Roadworks.{portableVerdict}
+use Rattle.roadworks.specs.declared.Approach.{Approach}
+use Rattle.givendra.specs.Answers.{judgeAnswer, shiftAnswer, planAnswer, junctionAnswer, intergreenAnswer, needAnswer, saturationAnswer, ratioAnswer, delayAnswer, portableAnswer}
 use Rattle.givendra.specs.LentList.{newestAnswer}
 use Rattle.givendra.specs.declared.CountRecord.{CountRecord}
 use Rattle.demands.specs.Asked.{Answers, AnswersBy}
-use Rattle.demands.specs.Places.{JunctionPlace, JudgePlace, DelayPlace, ShiftPlace, WorkPlace, FigurePlace, ListPlace}
-use Rattle.demands.specs.Questions.{junctionAsked, judgeAsked, delayAsked, shiftAsked, workAsked, intergreenAsked, needAsked, carAsked, listAsked, Formed, Every, FirstOf}
+use Rattle.demands.specs.Places.{JunctionPlace, JudgePlace, DelayPlace, ShiftPlace, WorkPlace, FigurePlace, ListPlace, PortablePlace}
+use Rattle.demands.specs.Questions.{junctionAsked, judgeAsked, delayAsked, shiftAsked, workAsked, intergreenAsked, needAsked, carAsked, listAsked, portableAsked, Formed, Every, FirstOf}
 use Rattle.demands.specs.lemmas.Answered.{read-answer, judge-answer, work-answer}
-use Rattle.demands.specs.lemmas.Entries.{answers, kept, c-read-holds, c-judge-holds, delay-holds, c-shift-holds, c-shift-kept, c-plan-holds, c-kept, intergreen-holds, need-holds, saturation-holds, ratio-holds, newest-holds}
-use Rattle.demands.specs.lemmas.Library.{delay-answer, delay-told, shift-answer, shift-told}
+use Rattle.demands.specs.lemmas.Entries.{answers, kept, c-read-holds, c-judge-holds, delay-holds, c-shift-holds, c-shift-kept, c-plan-holds, c-kept}
+use Rattle.demands.specs.lemmas.Entries.{intergreen-holds, need-holds, saturation-holds, ratio-holds, newest-holds, c-portable-holds}
+use Rattle.demands.specs.lemmas.Library.{delay-answer, delay-told, shift-answer, shift-told, portable-answer, portable-told}
 use Rattle.demands.specs.lemmas.Rules.{need-refused, capacity-refused, zone-refused, offset-refused}
 use Rattle.demands.specs.lemmas.Told.{junction-told, judge-told, work-told}
 
@@ -80,6 +83,10 @@ pub record FirstDemand : Type 0 where
       → AnswersBy (saturationAnswer junction n .refusal) (saturationAnswer junction n .place) (carAsked junction n) (FigurePlace junction (λ p. p ≡ n) ⊥)
   pub ratio : (junction : List ℕ) (n : ℕ)
       → AnswersBy (ratioAnswer junction n .refusal) (ratioAnswer junction n .place) (carAsked junction n) (FigurePlace junction (λ p. p ≡ n) ⊥)
+  -- portable signals, of any stretch, speed and approaches
+  pub signalled : (stretch speed : ℕ) (a b : Approach) → Answers (portableVerdict stretch speed a b) (portableAsked stretch speed a b) PortablePlace
+  pub c-signalled : (stretch speed : ℕ) (a b : Approach)
+      → AnswersBy (portableAnswer stretch speed a b .refusal) (portableAnswer stretch speed a b .place) (portableAsked stretch speed a b) PortablePlace
   -- of a lent list: 9 at the stream asked for
   pub newest : (list : List CountRecord) (w : Wanted)
       → AnswersBy (newestAnswer list w .refusal) (newestAnswer list w .place) (listAsked list w) (ListPlace (w .stream))
@@ -109,5 +116,7 @@ first-demand =
       need = need-holds;
       saturation = saturation-holds;
       ratio = ratio-holds;
+      signalled = λ stretch speed a b. answers _ _ _ (portable-answer stretch speed a b) (portable-told stretch speed a b);
+      c-signalled = c-portable-holds;
       newest = newest-holds;
     }

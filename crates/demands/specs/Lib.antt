@@ -10,6 +10,7 @@ pub mod OneDirection
 pub mod OtherPeriods
 pub mod Places
 pub mod Questions
+pub mod RoadWorks
 pub mod SecondDemand
 pub mod ThirdDemand
 pub mod lemmas

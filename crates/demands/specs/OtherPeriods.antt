@@ -65,7 +65,8 @@ module _ (s t : List ℕ) (one : reading s .verdict ≡ Passed) (two : reading t
     delay-same plan n = rw (one, two, is, judged-same j last many counts same plan, figures-same j last many counts same (planOf plan) n)
 
     same-answers : SameAnswers s t
-    unfolding judgement worked buffer shiftVerdict shiftedPlan judgeAnswer shiftAnswer planAnswer delayAnswer junctionAnswer intergreenAnswer intergreenVerdict needAnswer needVerdict saturationAnswer ratioAnswer carVerdict exists countRefers streamNumbered streamAt
+    unfolding judgement worked buffer shiftVerdict shiftedPlan judgeAnswer shiftAnswer planAnswer delayAnswer junctionAnswer
+        intergreenAnswer intergreenVerdict needAnswer needVerdict saturationAnswer ratioAnswer carVerdict exists countRefers streamNumbered streamAt
     same-answers =
         record {
           flows = λ n. rw is (sym (flow-same j last many counts same n));

@@ -61,3 +61,11 @@ pub data FigurePlace (junction : List ℕ) (Asked : ℕ → Type 0) (Cycle : Typ
 -- the lent list's: 9 at the stream asked for
 pub data ListPlace (asked : ℕ) : ℕ → ℕ → Type 0 where
   none-usable : ListPlace asked 9 asked
+
+-- portable signals': 25, 26, 21, 22 and 27 at 0
+pub data PortablePlace : ℕ → ℕ → Type 0 where
+  not-listed : PortablePlace 25 0
+  out-of-range : PortablePlace 26 0
+  too-much : PortablePlace 21 0
+  no-length : PortablePlace 22 0
+  waiting-short : PortablePlace 27 0

@@ -1,7 +1,7 @@
 -- Document 01, "Questions in order", as lists: the questions of a junction file, of a plan file with its rules, and of the calculation; and
 -- those of the C library's figures.
 use Prim.Native.Nat.{ℕ, zero, suc, _+_, _-_, _≤_, _<_}
-use mathlib.Core.Bool.{Bool, true, false, not, cond}
+use mathlib.Core.Bool.{Bool, true, false, _&&_, not, cond}
 use mathlib.Core.List.{List, [], _∷_, _++_}
 use mathlib.Core.Path.{_≡_}
 use lib.Dec.{leb, ltb}
@@ -19,6 +19,10 @@ use Rattle.plan_file.specs.Plans.{cycleExpected, cycleInRange, greenExpected, g
 use Rattle.plan_file.specs.Writing.{hasRoom}
 use Rattle.plan_rules.specs.Rules.{needMet, capacityMet, zoneMet}
 use Rattle.cycle_search.specs.Planning.{ratios, cycle}
+use Rattle.phase_lengths.specs.Phases.{ratioSum}
+use Rattle.stretches.specs.Table.{listed}
+use Rattle.roadworks.specs.Roadworks.{inRange as approachInRange, askedOf, phasesOf, cycleOf, enoughWaiting}
+use Rattle.roadworks.specs.declared.Approach.{Approach}
 use Rattle.givendra.specs.LentList.{listRank}
 use Rattle.givendra.specs.declared.CountRecord.{CountRecord}
 use Rattle.demands.specs.Asked.{Question, question, each}
@@ -131,3 +135,14 @@ carAsked junction n = junctionAsked junction ++ (question 7 n (countRefers (read
 -- the lent list: 9, place the stream asked for, is a record usable?
 abbrev pub listAsked : List CountRecord → Wanted → List Question
 listAsked list w = question 9 (w .stream) (leb 1 (listRank w list)) ∷ []
+
+-- portable signals (document 02, 2026-07), each at 0: 25 are stretch and speed listed? 26 is each flow and each S from 1 to 9,999? 21 is Y below
+-- 10,000? 22 is there a cycle? 27 is each available waiting length above the needed one?
+unfoldable pub portableAsked : ℕ → ℕ → Approach → Approach → List Question
+portableAsked stretch speed a b =
+    let w = askedOf stretch speed a b in
+    question 25 0 (listed stretch speed)
+    ∷ question 26 0 (approachInRange a && approachInRange b)
+    ∷ question 21 0 (ltb (ratioSum (phasesOf w)) 10000)
+    ∷ question 22 0 (ltb (cycleOf w) noCycle)
+    ∷ question 27 0 (enoughWaiting a (cycleOf w) && enoughWaiting b (cycleOf w)) ∷ []

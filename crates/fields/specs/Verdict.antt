@@ -38,6 +38,18 @@ pub ask-passed : (answer : Bool) (number place : ℕ) (later : Verdict) → ask 
 ask-passed true number place later e = (refl, e)
 ask-passed false number place later e = let none : _≡_ {A = ℕ} 0 1 = cc in absurd (omega arith)
 
+-- a refusal with the question's number is its own, where no later one has that number
+pub ask-here : (answer : Bool) (number place : ℕ) (later : Verdict) → (later ≡ Refused number place → ⊥)
+    → (ask answer number place later ≡ Refused number place) ↔ (answer ≡ false)
+ask-here true number place later never = (λ e. absurd (never e), λ e. absurd (true≢false e))
+ask-here false number place later never = (λ e. refl, λ e. refl)
+
+-- one with another number is that of a later question
+pub ask-after : (answer : Bool) (number place other there : ℕ) (later : Verdict) → (number ≡ other → ⊥)
+    → (ask answer number place later ≡ Refused other there) ↔ ((answer ≡ true) × (later ≡ Refused other there))
+ask-after true number place other there later differ = (λ e. (refl, e), λ h. h .1)
+ask-after false number place other there later differ = (λ e. absurd (differ (ap numberOf e)), λ h. absurd (true≢false (sym (h .0))))
+
 -- the first refusal of two: the later verdict counts only where the earlier one refuses nothing
 abbrev pub firstRefusal : Verdict → Verdict → Verdict
 firstRefusal Passed later = later

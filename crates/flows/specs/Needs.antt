@@ -44,10 +44,14 @@ pedestrianNeed p = max 6 (up (p .crossing + disturbance p * crossingSpeed p) (cr
 unfoldable pub islandNeed : IslandFigures → ℕ
 islandNeed i = max (pedestrianNeed (i .walk)) (up (i .wider + i .island + i .packet + disturbance (i .walk) * 12) 12)
 
+-- formula (38): the needed green of cars
+abbrev pub carNeed : ℕ
+carNeed = 8
+
 -- the needed green of a kind at a cycle: car (38), tram (Table 3), pedestrian (38 to 40), cyclist (40'), pedestrian over an island (38 to
 -- 40 with 39')
 unfoldable pub kindNeed : ℕ → Kind → ℕ
-kindNeed cycle (Car c) = 8
+kindNeed cycle (Car c) = carNeed
 kindNeed cycle (Tram t) = tramNeed cycle t
 kindNeed cycle (Pedestrian p) = pedestrianNeed p
 kindNeed cycle (Cyclist y) = 6

@@ -12,6 +12,9 @@ ghost use Rattle.flows.specs.Saturation.{straightFlow, turningFlow, base
 ghost use Rattle.flows.specs.Saturation.{turnDivisor, saturationFlow, flowRatio};
 ghost use Rattle.flows.specs.lemmas.Bounds.{Bounded};
 
+// The needed green of cars in seconds (38).
+pub const CAR_NEED: u32 = 8;
+
 // The needed green of a stream in seconds, at a cycle in seconds: 8 for cars (38), 10 or 20 for trams (Table 3), 6 for cyclists (40'), and for
 // pedestrians the time to cross, at least 6 (38 to 40; over an island 39'). More than 34 trams an hour, which no file holds, count as 34.
 pub fn need(s: Stream, cycle: u16) -> u32
@@ -19,7 +22,7 @@ pub fn need(s: Stream, cycle: u16) -> u32
 {
     let kind = s.kind;
     match kind {
-        Kind::Car(_) => 8,
+        Kind::Car(_) => CAR_NEED,
         Kind::Tram(t) => tram_need(t, cycle),
         Kind::Pedestrian(p) => pedestrian_need(p),
         Kind::Cyclist(_) => 6,

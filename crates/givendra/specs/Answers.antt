@@ -18,11 +18,15 @@ use Rattle.service_level.specs.Delays.{outcome, value, letter}
 use Rattle.service_level.specs.declared.Service.{Service}
 use Rattle.service_level.specs.declared.Level.{Level}
 use Rattle.delays.specs.Answer.{answer, refusal, refusedAt, toldOutcome, toldValue, toldLetter}
+use Rattle.roadworks.specs.Roadworks.{portable, refusal as portableRefusal, refusedAt as portableAt, figures as portableFigures}
+use Rattle.roadworks.specs.declared.Approach.{Approach}
+use Rattle.roadworks.specs.declared.Timing.{Timing}
 use Rattle.givendra.specs.declared.JudgeAnswer.{JudgeAnswer}
 use Rattle.givendra.specs.declared.PlanAnswer.{PlanAnswer}
 use Rattle.givendra.specs.declared.JunctionAnswer.{JunctionAnswer}
 use Rattle.givendra.specs.declared.Figure.{Figure}
 use Rattle.givendra.specs.declared.DelayAnswer.{DelayAnswer}
+use Rattle.givendra.specs.declared.PortableAnswer.{PortableAnswer}
 
 -- the release: GIVENDRA_RELEASE of include/givendra.h
 abbrev pub release : ℕ
@@ -122,3 +126,25 @@ delayAnswer junction plan n =
       level = toldLetter (answer junction plan n);
       value = toldValue (answer junction plan n);
     }
+
+-- portable signals (document 02, 2026-07): the refusal's number and place, and the figures, each 0 where something is refused
+abbrev pub portableBy : ℕ → ℕ → Timing → PortableAnswer
+portableBy number at x =
+    record {
+      place = at;
+      refusal = number;
+      «clearing_time» = x .table .clearing;
+      «lost_time» = x .table .lost;
+      cycle = x .cycle;
+      «first_start» = x .greens .first .start;
+      «first_length» = x .greens .first .length;
+      «second_start» = x .greens .second .start;
+      «second_length» = x .greens .second .length;
+    }
+
+abbrev pub timedAnswer : Timing → PortableAnswer
+timedAnswer x = portableBy 0 0 x
+
+unfoldable pub portableAnswer : ℕ → ℕ → Approach → Approach → PortableAnswer
+portableAnswer stretch speed a b =
+    portableBy (portableRefusal (portable stretch speed a b)) (portableAt (portable stretch speed a b)) (portableFigures (portable stretch speed a b))

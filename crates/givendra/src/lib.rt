@@ -6,7 +6,7 @@ ghost use lib.ListN.{length};
 ghost use Rattle.offsets.specs.Shifting.{shiftedPlan};
 ghost use Rattle.planner.specs.WorkingOut.{buffer as bufferAfter};
 ghost use Rattle.givendra.specs.Answers.{release, answerOf, judgeAnswer, planAnswer, junctionAnswer, figure as figureOf, intergreenVerdict, intergreenAnswer, needVerdict, needAnswer, carVerdict, saturationAnswer, ratioAnswer};
-ghost use Rattle.givendra.specs.Answers.{toldAnswer, delayAnswer, shiftAnswer};
+ghost use Rattle.givendra.specs.Answers.{toldAnswer, delayAnswer, shiftAnswer, timedAnswer, portableAnswer};
 ghost use Rattle.givendra.specs.LentList.{wanted, recordRank, newestAnswer, newestFigure};
 use counts::Count;
 use counts::Wanted;
@@ -14,6 +14,9 @@ use delays::Delayed;
 use fields::Verdict;
 use fields::ask;
 use junction::Junction;
+use roadworks::Approach;
+use roadworks::Portable;
+use roadworks::Timing;
 use service_level::Level;
 use service_level::Service;
 
@@ -306,6 +309,64 @@ fn told_answer(service: Service, level: Level) -> DelayAnswer
             level: letter,
             value: 0.0,
         },
+    }
+}
+
+// Portable signals for a narrowed stretch: the table's t and L in tenths of a second, the cycle, and start and length of each approach's green, in
+// seconds.
+#[repr(C)]
+pub struct PortableAnswer {
+    pub place: usize,
+    pub refusal: u8,
+    pub clearing_time: u16,
+    pub lost_time: u16,
+    pub cycle: u16,
+    pub first_start: u16,
+    pub first_length: u16,
+    pub second_start: u16,
+    pub second_length: u16,
+}
+
+// Works out portable signals for a stretch in metres, a speed in km/h and two approaches.
+#[no_mangle]
+pub extern "C" fn givendra_portable(
+    stretch: usize,
+    speed: usize,
+    first: Approach,
+    second: Approach,
+) -> PortableAnswer
+    ensures { λ r. ⌜ r ≡ portableAnswer stretch speed first second ⌝ }
+{
+    let answer = roadworks::work_out(stretch, speed, first, second);
+    match answer {
+        Portable::Refused { number, place } => PortableAnswer {
+            place,
+            refusal: number,
+            clearing_time: 0,
+            lost_time: 0,
+            cycle: 0,
+            first_start: 0,
+            first_length: 0,
+            second_start: 0,
+            second_length: 0,
+        },
+        Portable::Timed(timing) => timed_answer(timing),
+    }
+}
+
+fn timed_answer(timing: Timing) -> PortableAnswer
+    ensures { λ r. ⌜ r ≡ timedAnswer timing ⌝ }
+{
+    PortableAnswer {
+        place: 0,
+        refusal: 0,
+        clearing_time: timing.table.clearing,
+        lost_time: timing.table.lost,
+        cycle: timing.cycle,
+        first_start: timing.greens.first.start,
+        first_length: timing.greens.first.length,
+        second_start: timing.greens.second.start,
+        second_length: timing.greens.second.length,
     }
 }
 

@@ -278,6 +278,7 @@ fn green_byte(g: Green, n: usize, k: usize) -> u8
     low(g.length)
 }
 
+// The two bytes of a number, the high one first in a file.
 pub fn high(n: u16) -> u8
     ensures { λ r. ⌜ r ≡ n / 256 ⌝ }
 {

@@ -118,7 +118,7 @@ pub fn capacity_met(s: Stream, load: Load, green: Green, cycle: u16) -> bool
 }
 
 // Whether a green of this length in each cycle serves a flow: flow × cycle at most S × (length + 1).
-fn enough_capacity(flow: u16, cycle: u16, saturation: u32, length: u16) -> bool
+pub fn enough_capacity(flow: u16, cycle: u16, saturation: u32, length: u16) -> bool
     ensures { λ r. ⌜ r ≡ enoughCapacity flow cycle saturation length ⌝ }
 {
     flow as u64 * cycle as u64 <= saturation as u64 * (length as u64 + 1)

@@ -1,6 +1,7 @@
-// What the programs `plan` and `shift` tell: a plan, or a refusal.
+// What the programs `plan`, `shift` and `portable` tell: a plan, or a refusal.
 use console::put;
 use limits::MOST_STREAMS;
+use plan_file::Green;
 use plan_file::Plan;
 
 // Writes a plan file where argument i names a new file, then prints the plan: the cycle, and each stream's number, start and length.
@@ -29,10 +30,15 @@ fn kept(program: &[u8], i: usize, plan: &[u8]) -> bool {
 
 fn put_plan(plan: &[u8], out: &mut [u8]) -> usize {
     let p = plan_file::plan_of(plan);
-    let word = put(out, 0, b"cycle ");
-    let number = console::put_number(out, word, p.cycle as u64);
-    let line = put(out, number, b"\n");
+    let line = put_cycle(p.cycle, out, 0);
     put_greens(p, plan.len(), out, line)
+}
+
+// The cycle's line.
+pub fn put_cycle(cycle: u16, out: &mut [u8], at: usize) -> usize {
+    let word = put(out, at, b"cycle ");
+    let number = console::put_number(out, word, cycle as u64);
+    put(out, number, b"\n")
 }
 
 // A line for each green of a plan file of so many bytes.
@@ -43,16 +49,20 @@ fn put_greens(p: Plan, size: usize, out: &mut [u8], at: usize) -> usize {
         if size <= 5 + 8 * i {
             break;
         }
-        next = put_green(p, i + 1, out, next);
+        next = put_stream(p, i + 1, out, next);
         i += 1;
     }
     next
 }
 
-fn put_green(p: Plan, n: usize, out: &mut [u8], at: usize) -> usize {
-    let green = plan_file::green_of(p, n);
-    let stream = console::put_number(out, at, n as u64);
-    let first = put(out, stream, b" ");
+fn put_stream(p: Plan, n: usize, out: &mut [u8], at: usize) -> usize {
+    put_green(n, plan_file::green_of(p, n), out, at)
+}
+
+// A line of a number, a stream's or an approach's, with its green's start and length.
+pub fn put_green(n: usize, green: Green, out: &mut [u8], at: usize) -> usize {
+    let number = console::put_number(out, at, n as u64);
+    let first = put(out, number, b" ");
     let start = console::put_number(out, first, green.start as u64);
     let second = put(out, start, b" ");
     let length = console::put_number(out, second, green.length as u64);

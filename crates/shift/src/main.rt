@@ -4,11 +4,10 @@
 // written. The plan file that is read stays as it is. What fails is told on standard error.
 use console::JUNCTION_ROOM;
 use console::PLAN_ROOM;
-use decimals::Number;
 use fields::Verdict;
 
 fn main() {
-    let offset = number_argument(3);
+    let offset = console::number_argument(3);
     if !((os::arg_count() <= 5)
         & console::is_name(1)
         & console::is_name(2)
@@ -20,13 +19,6 @@ fn main() {
     let mut junction = [0; JUNCTION_ROOM];
     let mut plan = [0; PLAN_ROOM];
     shift_files(&mut junction, &mut plan, offset.value);
-}
-
-// Where the argument is missing or too long it is no number.
-fn number_argument(i: usize) -> Number {
-    let mut text = io::buffer();
-    let n = os::arg(i, &mut text);
-    decimals::decimal(&text[0..n])
 }
 
 // The lent buffers take the two files.

@@ -10,6 +10,8 @@
 //                               `refused`, number and place, then `kept` where every byte, in the file and behind it, is what it was before
 //     plan LABEL: SIZE BYTES    a lent buffer's size and a junction file: the cycle, the lengths tried and the plan file's bytes, or `refused`,
 //                               number and place; then `kept` where every other byte, in the buffer and behind it, is what it was before
+//     portable LABEL: NUMBERS   a stretch, a speed, and flow, S and available waiting length of each approach: `t` and `L` in tenths, `cycle`, and
+//                               number, start and length of each approach; or `refused`, number and place
 //     junction: BYTES           gives the junction file for the plan files after it, and prints nothing
 //
 // The answer follows the line's text up to the colon. A case of another word is answered `not known`. An empty line and a line that begins
@@ -22,7 +24,11 @@ use delays::Delayed;
 use fields::Verdict;
 use junction::Held;
 use libc::STDIN_FILENO;
+use plan_file::Green;
 use planner::Worked;
+use roadworks::Approach;
+use roadworks::Portable;
+use roadworks::Timing;
 use service_level::Level;
 use service_level::Service;
 
@@ -92,6 +98,9 @@ fn answer(line: &[u8], junction: &[u8]) {
     }
     if case_text::begins(line, b"plan ") {
         return plan(line);
+    }
+    if case_text::begins(line, b"portable ") {
+        return portable(line);
     }
     put(b" not known");
 }
@@ -274,4 +283,49 @@ fn tell_kept(kept: bool) {
     } else {
         put(b" spoilt");
     }
+}
+
+fn portable(line: &[u8]) {
+    tell_portable(roadworks::work_out(
+        case_text::number_at(line, 0),
+        case_text::number_at(line, 1),
+        approach(line, 2),
+        approach(line, 5),
+    ));
+}
+
+// The approach of the numbers at a place and after it.
+fn approach(line: &[u8], place: usize) -> Approach
+    requires { ⌜ place ≤ 5 ⌝ }
+{
+    Approach {
+        flow: case_text::number_at(line, place),
+        saturation: case_text::number_at(line, place + 1),
+        waiting: case_text::number_at(line, place + 2),
+    }
+}
+
+fn tell_portable(answer: Portable) {
+    match answer {
+        Portable::Refused { number, place } => tell_refusal(number, place),
+        Portable::Timed(timing) => tell_timing(timing),
+    }
+}
+
+fn tell_timing(timing: Timing) {
+    let greens = timing.greens;
+    put(b" t");
+    put_number(timing.table.clearing as usize);
+    put(b" L");
+    put_number(timing.table.lost as usize);
+    put(b" cycle");
+    put_number(timing.cycle as usize);
+    tell_green(1, greens.first);
+    tell_green(2, greens.second);
+}
+
+fn tell_green(n: usize, green: Green) {
+    put_number(n);
+    put_number(green.start as usize);
+    put_number(green.length as usize);
 }

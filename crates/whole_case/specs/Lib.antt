@@ -1,3 +1,4 @@
 pub mod Fields
 pub mod Refusals
+pub mod RoadWorks
 pub mod WholeCase

@@ -3,6 +3,7 @@
 use givendra_sys::*;
 use model::cases::text_of;
 use model::junction::Count;
+use model::portable::{Portable, Works};
 use model::random::Random;
 use model::{Delay, Refusal};
 use std::fmt::{Debug, Formatter};
@@ -147,6 +148,11 @@ pub fn newest_count(before: &[Count], list: &[Count], after: &[Count], stream: u
     answer
 }
 
+pub fn portable(works: &Works) -> PortableAnswer {
+    let [one, two] = works.approaches.map(|a| Approach { flow: a.flow, saturation: a.s, waiting: a.waiting });
+    unsafe { givendra_portable(works.stretch, works.speed, one, two) }
+}
+
 fn assert_lent(entry: &str, files: &[&Lent]) {
     for file in files {
         assert!(file.as_lent(), "{entry} changed lent memory around or in {}", text_of(file.bytes()));
@@ -201,6 +207,30 @@ pub fn figure(answer: Result<u32, Refusal>) -> Figure {
     Figure { place, refusal, value: answer.unwrap_or(0) }
 }
 
+/// The answer for road works: with a refusal every other number is 0.
+pub fn portable_answer(answer: &Result<Portable, Refusal>) -> PortableAnswer {
+    let (refusal, place) = number_and_place(answer);
+    let [t, l, cycle, start_1, length_1, start_2, length_2] = match answer {
+        Ok(p) => {
+            let [one, two] = p.greens;
+            let seconds = [p.clearing_time, p.lost_time, p.cycle].map(|n| n as u16);
+            [seconds[0], seconds[1], seconds[2], one.start, one.length, two.start, two.length]
+        }
+        Err(_) => [0; 7],
+    };
+    PortableAnswer {
+        place,
+        refusal,
+        clearing_time: t,
+        lost_time: l,
+        cycle,
+        first_start: start_1,
+        first_length: length_1,
+        second_start: start_2,
+        second_length: length_2,
+    }
+}
+
 pub fn number_and_place<T>(answer: &Result<T, Refusal>) -> (u8, usize) {
     answer.as_ref().err().map_or((0, 0), |e| (e.number, e.place))
 }
@@ -214,6 +244,15 @@ pub fn same<T: PartialEq + Debug>(what: &str, library: T, model: T, junction: &[
             text_of(junction),
             text_of(plan)
         );
+    }
+}
+
+/// Stops the test where library and model differ about road works, which are printed in the form of the stored cases.
+#[track_caller]
+pub fn same_works<T: PartialEq + Debug>(what: &str, library: T, model: T, works: &Works) {
+    if library != model {
+        let numbers = works.numbers().map(|n| n.to_string()).join(" ");
+        panic!("{what}\nlibrary {library:?}\nmodel   {model:?}\nportable: {numbers}");
     }
 }
 

@@ -1,4 +1,4 @@
--- `case_text::decimal` answers a number of at most eight digits: the index stays below the number of bytes.
+-- `case_text::decimal` answers a number within its bound: the index stays below the number of bytes.
 use Prim.Native.Nat.{_≤_, _-_}
 use lib.ListN.{length}
 use borrow.Author.Needs.{needs}

@@ -1,5 +1,5 @@
 -- What a length gives: starts and greens within it where every phase gets a green, and which of its rules makes it fail.
-use Prim.Native.Nat.{ℕ, _-_, _≤_}
+use Prim.Native.Nat.{ℕ, _-_, _≤_, _<_}
 use native.Mathlib.Omega.{arith}
 use mathlib.Core.Bool.{true, false, _&&_, not, true≢false}
 use mathlib.Core.Path.{_≡_, refl, sym, _∙_, ap}
@@ -15,7 +15,8 @@ use Rattle.junction.specs.declared.Junction.{Junction}
 use Rattle.junction_places.specs.Places.{streamNumbered}
 use Rattle.junction_file.specs.Taken.{Taken}
 use Rattle.phase_lengths.specs.Phases.{lostTime}
-use Rattle.phase_greens.specs.Fills.{start-within}
+use Rattle.phase_lengths.specs.declared.Phases.{Phases}
+use Rattle.phase_greens.specs.Fills.{Right, start-within}
 use Rattle.phase_greens.specs.Greens.{sharing, firstBelowOne, givesGreens}
 use Rattle.phase_greens.specs.Slots.{slotAt}
 use Rattle.phase_greens.specs.declared.Slot.{Slot}
@@ -30,15 +31,21 @@ pub record SlotSmall (slot : Slot) : Type 0 where
   pub start : slot .start ≤ mostSeconds
   pub green : slot .green ≤ mostSeconds
 
+-- a phase lies within a length that gives every phase a green
+pub slot-small : (q : Phases) → Right q → (t : ℕ) → givesGreens q t ≡ true → t ≤ mostSeconds → (i : ℕ) → i < q .count
+    → SlotSmall (slotAt q (sharing q t) i)
+slot-small q right t p short i low =
+    let inside = start-within q right t p i low in
+    record { start = omega arith; green = omega arith }
+
 module _ (j : Junction) (taken : Taken j) (t : ℕ) where
-  -- each stream's phase lies within a length that gives every phase a green
+  -- so does each stream's phase
   pub small : givesGreens (phasesAt j t) t ≡ true → t ≤ mostSeconds → (n : ℕ) → Between 1 (j .held .streams) n
       → SlotSmall (slotAt (phasesAt j t) (sharing (phasesAt j t) t) (streamNumbered j n .phase - 1))
   unfolding phasesAt
   small p short n w =
       let f = count-phases j taken n w in
-      let inside = start-within (phasesAt j t) (phases-right j taken t) t p (streamNumbered j n .phase - 1) (omega arith) in
-      record { start = omega arith; green = omega arith }
+      slot-small (phasesAt j t) (phases-right j taken t) t p short (streamNumbered j n .phase - 1) (omega arith)
 
 rule-works : (v : Verdict) → isWorks (ruleOutcome v) ≡ not (isRefused v)
 rule-works Passed = refl

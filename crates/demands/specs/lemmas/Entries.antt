@@ -20,14 +20,17 @@ use Rattle.delays.specs.Answer.{streamFigures, delayVerdict, answer as delayed}
 use Rattle.delays.specs.Refused.{unless-number}
 use Rattle.offsets.specs.Refused.{shift-unaltered}
 use Rattle.offsets.specs.Shifting.{shiftVerdict, shiftedPlan}
-use Rattle.givendra.specs.Answers.{answerOf, judgeAnswer, shiftAnswer, planAnswer, junctionAnswer, figure, intergreenAnswer, needAnswer, saturationAnswer, ratioAnswer, delayAnswer}
+use Rattle.roadworks.specs.Refused.{unless-number as portable-number}
+use Rattle.roadworks.specs.Roadworks.{portableVerdict, timing, portable}
+use Rattle.roadworks.specs.declared.Approach.{Approach}
+use Rattle.givendra.specs.Answers.{answerOf, judgeAnswer, shiftAnswer, planAnswer, junctionAnswer, figure, intergreenAnswer, needAnswer, saturationAnswer, ratioAnswer, delayAnswer, portableAnswer}
 use Rattle.givendra.specs.LentList.{newestAnswer, newestFigure}
 use Rattle.givendra.specs.declared.CountRecord.{CountRecord}
 use Rattle.demands.specs.Asked.{Question, answer, answer-refused, answer-passed, Answers, AnswersBy}
-use Rattle.demands.specs.Places.{JunctionPlace, JudgePlace, DelayPlace, ShiftPlace, WorkPlace, FigurePlace, ListPlace}
-use Rattle.demands.specs.Questions.{junctionAsked, judgeAsked, delayAsked, shiftAsked, workAsked, intergreenAsked, needAsked, carAsked, listAsked}
+use Rattle.demands.specs.Places.{JunctionPlace, JudgePlace, DelayPlace, ShiftPlace, WorkPlace, FigurePlace, ListPlace, PortablePlace}
+use Rattle.demands.specs.Questions.{junctionAsked, judgeAsked, delayAsked, shiftAsked, workAsked, intergreenAsked, needAsked, carAsked, listAsked, portableAsked}
 use Rattle.demands.specs.lemmas.Answered.{read-answer, judge-answer, work-answer}
-use Rattle.demands.specs.lemmas.Library.{said-is, junction-some, judge-some, delay-some, shift-some, work-some, figure-some, list-some}
+use Rattle.demands.specs.lemmas.Library.{said-is, junction-some, judge-some, delay-some, shift-some, work-some, figure-some, list-some, portable-some, portable-answer, portable-told}
 use Rattle.demands.specs.lemmas.Library.{delay-answer, delay-told, shift-answer, shift-told, intergreen-answer, need-answer, car-answer, list-answer, intergreen-told, need-told, car-told, list-told}
 use Rattle.demands.specs.lemmas.Told.{Told, told-more, junction-told, judge-told, work-told}
 
@@ -52,7 +55,7 @@ kept junction lent e =
     let is = ap isRefused (sym (worked-verdict j (length lent)) ∙ ap (λ w. w .verdict) (file-taken junction (length lent) r)) ∙ e in
     sym (buffer-refused j lent is ∙ lent-taken junction lent r))
 
-numbered-refused : (v : Verdict) → 1 ≤ numberOf v → isRefused v ≡ true
+pub numbered-refused : (v : Verdict) → 1 ≤ numberOf v → isRefused v ≡ true
 numbered-refused Passed some = absurd (omega arith)
 numbered-refused (Refused number place) some = refl
 
@@ -63,6 +66,14 @@ delay-holds junction plan n =
     let v = delayVerdict junction plan n in
     let is = unless-number v (streamFigures (reading junction .junction) (planOf plan) n) in
     rw (is .0, is .1) (answers-by v _ _ delay-some (delay-answer junction plan n) (delay-told junction plan n))
+
+pub c-portable-holds : (stretch speed : ℕ) (a b : Approach)
+    → AnswersBy (portableAnswer stretch speed a b .refusal) (portableAnswer stretch speed a b .place) (portableAsked stretch speed a b) PortablePlace
+unfolding portableAnswer portable
+c-portable-holds stretch speed a b =
+    let v = portableVerdict stretch speed a b in
+    let is = portable-number v (timing stretch speed a b) in
+    rw (is .0, is .1) (answers-by v _ _ portable-some (portable-answer stretch speed a b) (portable-told stretch speed a b))
 
 module _ (junction plan : List ℕ) (offset : ℕ) where
   pub c-shift-holds : AnswersBy (shiftAnswer junction plan offset .refusal) (shiftAnswer junction plan offset .place) (shiftAsked junction plan offset) (ShiftPlace junction plan)

@@ -1,6 +1,7 @@
 -- The C library's answers are the answers to their questions too, and a refusal's number is never 0.
 use Prim.Native.Nat.{ℕ, zero, suc, _≤_}
 use native.Mathlib.Omega.{arith}
+use mathlib.Core.Bool.{_&&_}
 use mathlib.Core.List.{List, [], _∷_, _++_}
 use mathlib.Core.Logic.{_⊎_, inl, inr}
 use mathlib.Core.Path.{_≡_, refl, sym, _∙_}
@@ -17,6 +18,11 @@ use Rattle.plan_file.specs.Plans.{cycleInRange, planVerdict}
 use Rattle.plan_judge.specs.Judgement.{judgement}
 use Rattle.delays.specs.Answer.{carAsked as delayCar, delayVerdict}
 use Rattle.offsets.specs.Shifting.{fileVerdict, shiftVerdict}
+use Rattle.limits.specs.Limits.{noCycle}
+use Rattle.phase_lengths.specs.Phases.{ratioSum}
+use Rattle.stretches.specs.Table.{listed}
+use Rattle.roadworks.specs.Roadworks.{inRange as approachInRange, askedOf, phasesOf, cycleOf, enoughWaiting, laterVerdict, portableVerdict}
+use Rattle.roadworks.specs.declared.Approach.{Approach}
 use Rattle.givendra.specs.Answers.{intergreenVerdict, needVerdict, carVerdict}
 use Rattle.givendra.specs.LentList.{listRank}
 use Rattle.givendra.specs.declared.CountRecord.{CountRecord}
@@ -24,7 +30,8 @@ use Rattle.demands.specs.Asked.{Question, question, answer, answer-appen
 use Rattle.demands.specs.Places.{JunctionPlace, long, field, file, count, PlanPlace, fit, expected, range, RulePlace, need, capacity, zone}
 use Rattle.demands.specs.Places.{CalculationPlace, ratios-sum, no-cycle, no-room, JudgePlace, WorkPlace, FigurePlace, ListPlace}
 use Rattle.demands.specs.Places.{of-junction, of-plan, of-rule, of-calculation, of-stream, of-cycle, none-usable, DelayPlace, of-judge, no-car, ShiftPlace, not-below}
-use Rattle.demands.specs.Questions.{junctionAsked, planAsked, judgeAsked, delayAsked, shiftAsked, intergreenAsked, needAsked, carAsked, listAsked}
+use Rattle.demands.specs.Places.{PortablePlace, not-listed, out-of-range, too-much, no-length, waiting-short}
+use Rattle.demands.specs.Questions.{junctionAsked, planAsked, judgeAsked, delayAsked, shiftAsked, intergreenAsked, needAsked, carAsked, listAsked, portableAsked}
 use Rattle.demands.specs.lemmas.Answered.{read-answer, plan-answer, judge-answer}
 use Rattle.demands.specs.lemmas.Told.{Told, ask-told, first-told, told-more, junction-told, plan-told, judge-told}
 
@@ -160,6 +167,28 @@ module _ (junction plan : List ℕ) (offset : ℕ) where
       first-told R (reading junction .verdict) _ (told-more _ R (λ n p. of-junction) (reading junction .verdict) (junction-told junction)) (λ e.
       first-told R (planVerdict plan streams) _ (told-more _ R (λ n p. of-plan) (planVerdict plan streams) (plan-told plan streams)) (λ f.
       ask-told R (ltb offset (numberAt plan 3)) 24 0 Passed (λ g. not-below) (λ g. tt)))
+
+pub portable-some : (n p : ℕ) → PortablePlace n p → 1 ≤ n
+portable-some n p not-listed = omega arith
+portable-some n p out-of-range = omega arith
+portable-some n p too-much = omega arith
+portable-some n p no-length = omega arith
+portable-some n p waiting-short = omega arith
+
+module _ (stretch speed : ℕ) (a b : Approach) where
+  pub portable-answer : portableVerdict stretch speed a b ≡ answer (portableAsked stretch speed a b)
+  unfolding portableVerdict laterVerdict portableAsked answer
+  portable-answer = refl
+
+  pub portable-told : Told PortablePlace (portableVerdict stretch speed a b)
+  unfolding portableVerdict laterVerdict
+  portable-told =
+      let w = askedOf stretch speed a b in
+      ask-told PortablePlace (listed stretch speed) 25 0 _ (λ e. not-listed) (λ e.
+      ask-told PortablePlace (approachInRange a && approachInRange b) 26 0 _ (λ f. out-of-range) (λ f.
+      ask-told PortablePlace (ltb (ratioSum (phasesOf w)) 10000) 21 0 _ (λ g. too-much) (λ g.
+      ask-told PortablePlace (ltb (cycleOf w) noCycle) 22 0 _ (λ h. no-length) (λ h.
+      ask-told PortablePlace (enoughWaiting a (cycleOf w) && enoughWaiting b (cycleOf w)) 27 0 Passed (λ i. waiting-short) (λ i. tt)))))
 
 module _ (list : List CountRecord) (w : Wanted) where
   pub list-answer : ask (leb 1 (listRank w list)) 9 (w .stream) Passed ≡ answer (listAsked list w)

@@ -44,7 +44,7 @@ capacity-exact j p n =
     (λ e. rw e (λ h car. leb-true _ _ h, λ h. le-leb _ _ (h refl)))
     (λ e. rw e (λ h car. absurd (true≢false (sym car)), λ h. refl))
 
-clear-exact : (cycle : ℕ) (a b : Green) (x y : ℕ)
+pub clear-exact : (cycle : ℕ) (a b : Green) (x y : ℕ)
     → (zoneClear cycle a b x y ≡ true) ↔ ((a .length + x ≤ off cycle (a .start) (b .start)) × (off cycle (a .start) (b .start) + b .length + y ≤ cycle))
 unfolding zoneClear
 clear-exact cycle a b x y =

@@ -16,7 +16,7 @@ abbrev μ-loop : tie.MeasureT-loop
 loop-again : tie.Need-loop-again Inv-loop μ-loop
 loop-again c =
     let l = c .before .before .before .before .before .before .loop in
-    (omega arith, c .before .before .put-green .kept .1 .1 .0 ∙ l .inv .1)
+    (omega arith, c .before .before .put-stream .kept .1 .1 .0 ∙ l .inv .1)
 
 same-length : tie.Need-same-length Inv-loop μ-loop
 same-length c = c .before .loop .inv .1

@@ -1,0 +1,9 @@
+pub mod Answered
+pub mod Approaches
+pub mod Cycle
+pub mod Large
+pub mod Meaning
+pub mod Refused
+pub mod Roadworks
+pub mod Works
+pub mod lemmas
