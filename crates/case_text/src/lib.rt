@@ -1,8 +1,8 @@
 // The text of test cases, one a line: what is asked and a label up to a colon, then a file in hexadecimal, with or without spaces between
 // the bytes; `*N` after a byte stands for that byte N times, and ends at a space. Answers are printed on standard output.
-ghost use Rattle.std.specs.Prelude.{◌≡◌, ◌<◌, ◌≤◌, length};
+#![tactic(auto)]
 
-use libc::STDOUT_FILENO;
+ghost use Rattle.std.specs.Prelude.{◌≡◌, ◌<◌, ◌≤◌, length};
 
 // A case's file has at most so many bytes.
 const FILE_ROOM: usize = 131072;
@@ -246,28 +246,28 @@ fn with_digit(n: usize, digit: u8) -> usize
     n
 }
 
-pub fn put(text: &[u8]) {
-    io::write_all(STDOUT_FILENO, text);
+// Prints bytes as they are. What cannot be printed is let go, as in the functions below.
+pub fn put(rt: &impl Print, text: &[u8]) {
+    let _ = rt.write_all(text);
 }
 
 // Prints a space and a number.
-pub fn put_number(n: usize) {
-    put(b" ");
-    io::print_decimal(STDOUT_FILENO, n as u64);
+pub fn put_number(rt: &impl Print, n: usize) {
+    let _ = print!(rt; " {n}");
 }
 
 // Prints bytes in hexadecimal.
-pub fn put_bytes(bytes: &[u8]) {
+pub fn put_bytes(rt: &impl Print, bytes: &[u8]) {
     for i in 0..bytes.len() {
-        put_byte(bytes[i]);
+        put_byte(rt, bytes[i]);
     }
 }
 
 // Prints the 64 bits of a number in hexadecimal.
-pub fn put_bits(bits: u64) {
-    io::print_hex(STDOUT_FILENO, bits, 16);
+pub fn put_bits(rt: &impl Print, bits: u64) {
+    let _ = print!(rt; "{bits:016x}");
 }
 
-fn put_byte(byte: u8) {
-    io::print_hex(STDOUT_FILENO, byte as u64, 2);
+fn put_byte(rt: &impl Print, byte: u8) {
+    let _ = print!(rt; "{byte:02x}");
 }

@@ -1,12 +1,14 @@
 // The choice of a count (document 01: the greatest count day not after the design day; of equals, the larger flow; document 02, 2026-04: of the
 // counts of one period).
+#![tactic(auto)]
+
 ghost use Rattle.std.specs.Prelude.{◌≡◌, max};
 ghost use Rattle.counts.specs.Newest.{usable as is_usable, rank as rank_of, rank_day, rank_flow};
 
 use limits::{GREATEST_FLOW, GREATEST_PERIOD, LEAST_FLOW, LEAST_PERIOD};
 
 // A traffic count: the car stream's number, the day of the count, the flow in E/h, the period of the day.
-#[derive(Drop)]
+#[derive(Clone, Copy)]
 pub struct Count {
     pub stream: u8,
     pub day: u16,
@@ -15,7 +17,7 @@ pub struct Count {
 }
 
 // What is asked for: a count of this car stream, not after this day, in this period. Each number is as wide as a caller can hand it in.
-#[derive(Drop)]
+#[derive(Clone, Copy)]
 pub struct Wanted {
     pub stream: usize,
     pub day: u16,
@@ -30,6 +32,7 @@ pub fn newer(best: u32, w: Wanted, c: Count) -> u32
     laws::u32_larger(best, rank(w, c))
 }
 
+#[tactic(auto, unfolding(crate::specs::Newest::rank))]
 fn rank(w: Wanted, c: Count) -> u32
     ensures { result ≡ rank_of w c }
 {
@@ -40,6 +43,7 @@ fn rank(w: Wanted, c: Count) -> u32
     }
 }
 
+#[tactic(auto, unfolding(crate::specs::Newest::usable))]
 fn usable(w: Wanted, c: Count) -> bool
     ensures { result ≡ is_usable w c }
 {
@@ -53,6 +57,7 @@ fn usable(w: Wanted, c: Count) -> bool
 }
 
 // The day of the count with a rank, 0 where there is none.
+#[tactic(auto, unfolding(crate::specs::Newest::rank_day))]
 pub fn day(rank: u32) -> u16
     ensures { result ≡ rank_day rank }
 {
@@ -60,6 +65,7 @@ pub fn day(rank: u32) -> u16
 }
 
 // The flow of the count with a rank, 0 where there is none.
+#[tactic(auto, unfolding(crate::specs::Newest::rank_flow))]
 pub fn flow(rank: u32) -> u16
     ensures { result ≡ rank_flow rank }
 {

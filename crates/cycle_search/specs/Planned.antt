@@ -8,11 +8,11 @@ use Rattle.limits.specs.Limits.{most_streams, most_seconds}
 use Rattle.junction.specs.declared.Junction.{Junction}
 use Rattle.junction_places.specs.Places.{stream_numbered}
 use Rattle.junction_file.specs.Taken.{Taken}
-use Rattle.phase_greens.specs.Fills.{green_some, start_within}
+use Rattle.phase_greens.proofs.Fills.{green_some, start_within}
 use Rattle.phase_greens.specs.Greens.{sharing, green_at, start_at, gives_greens}
 use Rattle.junction_phases.specs.JunctionPhases.{phases_at}
 use Rattle.junction_phases.specs.Meaning.{count_phases}
-use Rattle.junction_phases.specs.lemmas.Right.{phases_right_lem}
+use Rattle.junction_phases.proofs.lemmas.Right.{phases_right_lem}
 use Rattle.plan_file.specs.declared.Green.{Green}
 use Rattle.plan_file.specs.Plans.{green_of, no_green}
 use Rattle.plan_file.specs.WellFormed.{PlanRight, green_numbered}

@@ -1,4 +1,6 @@
 // The plan of a length, and the cycle: the least length from the first on that does not fail (document 01, "Working out a plan").
+#![tactic(auto)]
+
 ghost use Rattle.std.specs.Prelude.{true, ◌≡◌, ◌≤◌};
 ghost use Rattle.limits.specs.Limits.{most_seconds, no_cycle};
 ghost use Rattle.junction_file.specs.Taken.{Taken};
@@ -17,7 +19,7 @@ use phase_lengths::Phases;
 use plan_file::{Green, Plan};
 
 // The cycle, 181 where no length from the first to 180 works; how many lengths were tried; and the cycle's plan, where there is a cycle.
-#[derive(Drop)]
+#[derive(Clone, Copy)]
 pub struct Found {
     pub cycle: u16,
     pub tried: u16,
@@ -25,6 +27,7 @@ pub struct Found {
 }
 
 // T0, the first length that is tried: the annex's optimum with trams at 10 s.
+#[tactic(auto, unfolding(crate::specs::Planning::first_tried, crate::specs::Planning::ratios))]
 fn first_tried(j: Junction, q: Phases) -> u16
     requires taken { Taken j }
     requires phases { q ≡ phases_at j 0 }
@@ -50,6 +53,7 @@ pub fn slot_green(slot: Slot) -> Green
 }
 
 // The plan of a length: every stream gets its phase's green.
+#[tactic(auto, unfolding(crate::specs::Planning::phase_green, crate::specs::Planning::plan_at))]
 fn plan_at(j: Junction, q: Phases, slots: Slots, t: u16) -> Plan
     requires taken { Taken j }
     requires phases { q ≡ phases_at j t }
@@ -74,6 +78,7 @@ fn plan_at(j: Junction, q: Phases, slots: Slots, t: u16) -> Plan
 
 // The least length from the first on that works: at least its lost time, every green 1 or more, and every rule met. The tests stand in the
 // loop, which is left from inside them at the first rule broken; the plan that has passed them all is handed on.
+#[tactic(auto, unfolding(junction_phases::specs::JunctionPhases::phases_at))]
 fn search(j: Junction, loads: Loads, conflicts: Conflicts, fixed: Phases, first: u16) -> Found
     requires taken { Taken j }
     requires loads { loads ≡ loads_of j }
@@ -137,6 +142,7 @@ fn search(j: Junction, loads: Loads, conflicts: Conflicts, fixed: Phases, first:
 }
 
 // The cycle of a junction that is taken, by its phases with trams at 10 s.
+#[tactic(auto, unfolding(crate::specs::Planning::first_tried))]
 pub fn find_cycle(j: Junction, loads: Loads, conflicts: Conflicts, q: Phases) -> Found
     requires taken { Taken j }
     requires loads { loads ≡ loads_of j }

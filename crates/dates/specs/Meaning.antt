@@ -1,33 +1,15 @@
--- What the number of a date means: no two dates of the calendar have the same, so that a day is the number of one date; and numbers counted by
--- hand.
-use Rattle.std.specs.Prelude.{ℕ, ◌<◌, List, [], ◌∷◌, map, ◌≡◌, refl}
-use Rattle.std.proofs.Common.{arith, sym}
+-- Numbers of dates counted by hand, and the days before each month.
+use Rattle.std.specs.Prelude.{ℕ, List, [], ◌∷◌, map, ◌≡◌, refl}
 use Rattle.laws.specs.Sums.{sum_of}
-use Rattle.dates.specs.Dates.{is_leap_year, year_length, has_thirty, month_length, days_before_year, days_before_month, CalendarDate, number}
+use Rattle.dates.specs.Dates.{is_leap_year, year_length, has_thirty, month_length, days_before_year, days_before_month, number}
 use Rattle.dates.specs.declared.Date.{Date}
-use Rattle.dates.specs.lemmas.Order.{later_year, later_month, later_day}
 
 -- a date by year, month and day
 abbrev date : ℕ → ℕ → ℕ → Date
 date year month day = record { year = year; month = month; day = day }
 
-same_fields : {y m d y' m' d' : ℕ} → y ≡ y' → m ≡ m' → d ≡ d' → date y m d ≡ date y' m' d'
+pub same_fields : {y m d y' m' d' : ℕ} → y ≡ y' → m ≡ m' → d ≡ d' → date y m d ≡ date y' m' d'
 same_fields year month day = rw (year, month, day)
-
--- a and b are the same where m and n are, which differ in the same direction
-same_by_order : (a b m n : ℕ) → (a < b → m < n) → (b < a → n < m) → m ≡ n → a ≡ b
-same_by_order a b m n less more same =
-    let not-less : a < b → ⊥ = λ h. omega (arith, less h) in
-    let not_more : b < a → ⊥ = λ h. omega (arith, more h) in
-    omega arith
-
--- two dates of the calendar with the same number are the same date
-pub one_date : (d e : Date) → CalendarDate d → CalendarDate e → number d ≡ number e → d ≡ e
-one_date d e this other same =
-    let year = same_by_order _ _ _ _ (later_year d e this) (later_year e d other) same in
-    let month = same_by_order _ _ _ _ (later_month d e this year) (later_month e d other (sym year)) same in
-    let day = same_by_order _ _ _ _ (later_day d e this year month) (later_day e d other (sym year) (sym month)) same in
-    same_fields year month day
 
 abbrev months : List ℕ
 months = 1 ∷ 2 ∷ 3 ∷ 4 ∷ 5 ∷ 6 ∷ 7 ∷ 8 ∷ 9 ∷ 10 ∷ 11 ∷ 12 ∷ []

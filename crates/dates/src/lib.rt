@@ -1,9 +1,11 @@
 // The date of a day of a junction file. A file has a day as a number: the days since 1 January 2000, up to 65,535, which is 6 June 2179.
+#![tactic(auto)]
+
 ghost use Rattle.std.specs.Prelude.{◌≡◌, ◌+◌, ◌≤◌, ◌<◌};
 ghost use Rattle.dates.specs.Dates.{is_leap_year, year_length, has_thirty, month_length, days_before_year, CalendarDate, number};
 
 // A date: the year, the month from 1 to 12, and the day of the month from 1.
-#[derive(Drop)]
+#[derive(Clone, Copy)]
 pub struct Date {
     pub year: u16,
     pub month: u8,
@@ -11,6 +13,7 @@ pub struct Date {
 }
 
 // Whether a year is a leap year: divisible by 4, and by 100 only where by 400.
+#[tactic(auto, unfolding(crate::specs::Dates::is_leap_year))]
 fn leap_year(year: u16) -> bool
     ensures { result ≡ is_leap_year year }
 {
@@ -18,6 +21,7 @@ fn leap_year(year: u16) -> bool
 }
 
 // How many days a year has.
+#[tactic(auto, unfolding(crate::specs::Dates::year_length))]
 fn year_length(year: u16) -> u16
     ensures { result ≡ year_length year }
 {
@@ -28,6 +32,7 @@ fn year_length(year: u16) -> u16
 }
 
 // Whether a month other than February has thirty days.
+#[tactic(auto, unfolding(crate::specs::Dates::has_thirty))]
 fn has_thirty(month: u8) -> bool
     ensures { result ≡ has_thirty month }
 {
@@ -35,6 +40,7 @@ fn has_thirty(month: u8) -> bool
 }
 
 // How many days a month of a year has.
+#[tactic(auto, unfolding(crate::specs::Dates::month_length))]
 fn month_length(year: u16, month: u8) -> u16
     ensures { result ≡ month_length year month }
 {
@@ -51,6 +57,7 @@ fn month_length(year: u16, month: u8) -> u16
 }
 
 // The date before which so many days of its year come. It requires a year from 2000 on, with more days than that.
+#[tactic(auto, unfolding(crate::specs::Dates::number))]
 fn date_in_year(year: u16, before: u16) -> Date
     requires from2000 { 2000 ≤ year }
     requires within { before < year_length year }

@@ -1,4 +1,6 @@
 // Decimal numbers in the arguments of a program.
+#![tactic(auto)]
+
 ghost use Rattle.std.specs.Prelude.{◌≡◌, ◌-◌, ◌≤◌, min};
 ghost use Rattle.decimals.specs.Decimals.{most_decimal, is_digit, with_digit, decimal_of};
 
@@ -6,13 +8,14 @@ ghost use Rattle.decimals.specs.Decimals.{most_decimal, is_digit, with_digit, de
 pub const MOST_DECIMAL: usize = 1000000000000000000;
 
 // Whether a text is a number, and which, at most MOST_DECIMAL.
-#[derive(Drop)]
+#[derive(Clone, Copy)]
 pub struct Number {
     pub valid: bool,
     pub value: usize,
 }
 
 // The number that the digits of a text make: valid where it has a digit or more, and nothing else.
+#[tactic(auto, unfolding(crate::specs::Decimals::decimal_of))]
 pub fn decimal(text: &[u8]) -> Number
     ensures { result ≡ decimal_of text.now }
 {
@@ -37,6 +40,7 @@ fn is_digit(byte: u8) -> bool
 }
 
 // A number with a digit after it.
+#[tactic(auto, unfolding(crate::specs::Decimals::most_decimal))]
 fn with_digit(n: usize, byte: u8) -> usize
     requires { n ≤ most_decimal }
     ensures { result ≡ with_digit n byte }
@@ -50,6 +54,7 @@ fn digit(byte: u8) -> u8
     if byte < b'0' { 0 } else { byte - b'0' }
 }
 
+#[tactic(auto, unfolding(crate::specs::Decimals::most_decimal))]
 fn at_most(n: usize) -> usize
     ensures { result ≡ min n most_decimal }
 {

@@ -1,7 +1,9 @@
 // Prints what is told of each car stream of an accepted plan: two file names as arguments, the junction's first. A line has the stream's number,
 // then `delay` and the seconds, `saturation` and its value, or `no red`, and the level of service. Seconds are in tenths, rounded up, so that they
-// and the level never contradict each other (tenths/specs/Printed.antt); a saturation is rounded down. Where the plan is not accepted, the judge's
+// and the level never contradict each other (tenths/proofs/Printed.antt); a saturation is rounded down. Where the plan is not accepted, the judge's
 // refusal is printed. What fails is told on standard error.
+#![tactic(auto)]
+
 use console::{JUNCTION_ROOM, PLAN_ROOM, put};
 use delays::Delayed;
 use fields::Verdict;
@@ -9,28 +11,28 @@ use limits::MOST_STREAMS;
 use service_level::{Level, Service};
 use tenths::TENTHS_END;
 
-fn main() {
-    if console::has_two_names(b"delay JUNCTION-FILE PLAN-FILE") {
+fn main(rt: HostRuntime) {
+    if console::has_two_names(&rt, b"delay JUNCTION-FILE PLAN-FILE") {
         let mut junction = [0; JUNCTION_ROOM];
         let mut plan = [0; PLAN_ROOM];
-        tell_files(&mut junction, &mut plan);
+        tell_files(&rt, &mut junction, &mut plan);
     }
 }
 
 // The lent buffers take the two files.
-fn tell_files(junction: &mut [u8], plan: &mut [u8]) {
-    let got = console::read_two(b"delay", junction, plan);
+fn tell_files(rt: &HostRuntime, junction: &mut [u8], plan: &mut [u8]) {
+    let got = console::read_two(rt, b"delay", junction, plan);
     if got.read {
         let m = got.first;
         let n = got.second;
-        answer(&junction[0..m], &plan[0..n]);
+        answer(rt, &junction[0..m], &plan[0..n]);
     }
 }
 
-fn answer(junction: &[u8], plan: &[u8]) {
+fn answer(rt: &HostRuntime, junction: &[u8], plan: &[u8]) {
     let mut text = [0u8; 1024];
     let n = put_answer(junction, plan, &mut text);
-    console::write_text(b"delay", &text, n);
+    console::write_text(rt, b"delay", &text, n);
 }
 
 fn put_answer(junction: &[u8], plan: &[u8], out: &mut [u8]) -> usize {

@@ -1,5 +1,4 @@
 pub mod Answer
-pub mod FileDays
 pub mod Long
 pub mod Refused
 pub mod Told

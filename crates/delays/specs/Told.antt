@@ -14,23 +14,24 @@ use Rattle.junction_file.specs.Reading.{reading}
 use Rattle.junction_figures.specs.Figures.{stream_flow, stream_saturation}
 use Rattle.plan_file.specs.Plans.{plan_of, green_of}
 use Rattle.plan_file.specs.declared.Plan.{Plan}
-use Rattle.plan_judge.specs.Demand3.{only_acceptable}
+use Rattle.plan_judge.proofs.Demand3.{only_acceptable}
 use Rattle.plan_judge.specs.Judgement.{judgement}
-use Rattle.plan_judge.specs.Written.{accepted_pair}
-use Rattle.service_level.specs.Capacity.{just_above, below_capacity, saturation_close}
+use Rattle.plan_judge.proofs.Written.{accepted_pair}
+use Rattle.service_level.specs.Capacity.{just_above}
+use Rattle.service_level.proofs.Capacity.{below_capacity, saturation_close}
 use Rattle.service_level.specs.Delays.{whole, green_share, saturation_of, service_of}
-use Rattle.service_level.specs.Divisors.{Numbers, Divisors, divisors}
-use Rattle.service_level.specs.Told as service
+use Rattle.service_level.specs.Divisors.{Numbers, Divisors}
+use Rattle.service_level.proofs.Divisors.{divisors}
+use Rattle.service_level.proofs.Told as service
 use Rattle.service_level.specs.declared.Service.TheVariants.{Delay, Oversaturated, NoRed}
-use Rattle.delays.specs.Answer.{stream_figures, told, unless, answer}
-use Rattle.delays.specs.Refused.{verdict_passed}
+use Rattle.delays.specs.Answer.{stream_figures}
 use Rattle.delays.specs.lemmas.InRange.{car_of_lem, flow_in_range, saturation_in_range, in_range}
 
 module _ (junction plan : List ℕ) (n : ℕ) (accepted : judgement junction plan ≡ Passed) (car : count_refers (reading junction).junction n ≡ true) where
-  abbrev j : Junction
+  abbrev pub j : Junction
   j = (reading junction).junction
 
-  abbrev p : Plan
+  abbrev pub p : Plan
   p = plan_of plan
 
   -- g and u of the stream
@@ -42,11 +43,6 @@ module _ (junction plan : List ℕ) (n : ℕ) (accepted : judgement junction pla
 
   numbers : Numbers (green_of p n).length p.cycle (stream_flow j n) (stream_saturation j n)
   numbers = in_range junction plan n accepted (car_of_lem j n car)
-
-  -- the answer is what is told
-  pub is_told : answer junction plan n ≡ told (stream_figures j p n)
-  unfolding answer unless
-  is_told = rw ((verdict_passed junction plan n).1 (accepted, car))
 
   pub divisors_some : Divisors g u p.cycle (stream_flow j n) (stream_saturation j n)
   divisors_some = divisors _ _ _ _ numbers

@@ -1,4 +1,6 @@
 // The delay of a car stream over a junction file and a plan file (document 02, 2026-05).
+#![tactic(auto)]
+
 ghost use Rattle.std.specs.Prelude.{◌≡◌};
 ghost use Rattle.junction_file.specs.Taken.{Taken};
 ghost use Rattle.delays.specs.Answer.{car_asked, stream_figures, told as told_of, answer_for, answer};
@@ -9,7 +11,7 @@ use plan_file::Plan;
 use service_level::{DelayFigures, Level, Service};
 
 // A refusal, or what is told of the stream.
-#[derive(Drop)]
+#[derive(Clone, Copy)]
 pub enum Delayed {
     Refused { number: u8, place: usize },
     Told { service: Service, level: Level },
@@ -17,6 +19,7 @@ pub enum Delayed {
 
 // The answer to every two sequences of bytes and every number of a stream. The judge's refusal comes first; then 9, place the number asked for,
 // where it is not that of an existing car. Neither file is altered.
+#[tactic(auto, unfolding(crate::specs::Answer::answer, crate::specs::Answer::answer_for, crate::specs::Answer::delay_verdict, plan_judge::specs::Judgement::judgement, crate::specs::Answer::unless))]
 pub fn delay(junction: &[u8], plan: &[u8], stream: usize) -> Delayed
     ensures { result ≡ answer junction.now plan.now stream }
 {
@@ -29,6 +32,7 @@ pub fn delay(junction: &[u8], plan: &[u8], stream: usize) -> Delayed
 }
 
 // That of a junction that is taken.
+#[tactic(auto, unfolding(crate::specs::Answer::answer_for, crate::specs::Answer::unless))]
 fn delay_for(j: Junction, plan: &[u8], stream: usize) -> Delayed
     requires { Taken j }
     ensures { result ≡ answer_for j plan.now stream }
@@ -41,6 +45,7 @@ fn delay_for(j: Junction, plan: &[u8], stream: usize) -> Delayed
     }
 }
 
+#[tactic(auto, unfolding(crate::specs::Answer::car_asked))]
 fn car_asked(j: Junction, stream: usize) -> Verdict
     ensures { result ≡ car_asked j stream }
 {
@@ -53,6 +58,7 @@ fn car_asked(j: Junction, stream: usize) -> Verdict
 }
 
 // The figures of a car stream with the green that it has in a plan.
+#[tactic(auto, unfolding(crate::specs::Answer::stream_figures))]
 fn stream_figures(j: Junction, p: Plan, stream: usize) -> DelayFigures
     ensures { result ≡ stream_figures j p stream }
 {
@@ -62,6 +68,7 @@ fn stream_figures(j: Junction, p: Plan, stream: usize) -> DelayFigures
     service_level::figures(green.length, p.cycle, flow, saturation)
 }
 
+#[tactic(auto, unfolding(crate::specs::Answer::told))]
 fn told(f: DelayFigures) -> Delayed
     ensures { result ≡ told_of f }
 {

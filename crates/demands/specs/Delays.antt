@@ -1,7 +1,7 @@
 -- The delay over files (document 02, 2026-05), as the C library answers it for an accepted plan and an existing car of its junction: no red, tested
 -- first; the saturation where it is 1 or more; else the delay; with the level of each.
 --
--- `whole`, `greenShare`, `saturationOf`, `termA`, `termB`, `delayOf` and `delayLevel` are the request's formulas and levels, in f64
+-- `whole`, `green_share`, `saturation_of`, `term_a`, `term_b`, `delay_of` and `delay_level` are the request's formulas and levels, in f64
 -- (service_level/specs/Delays.antt); 1, 2 and 3 the numbers of the answers, 65 to 70 the letters A to F.
 use Rattle.std.specs.Prelude.{ℕ, ◌+◌, ◌*◌, ◌≤◌, ◌<◌, true, false, List, ◌≡◌, leb, Float}
 use Rattle.std.proofs.Common.{sym, ◌∙◌, subst}
@@ -16,14 +16,16 @@ use Rattle.junction_figures.specs.Figures.{stream_flow, stream_saturation}
 use Rattle.plan_file.specs.Plans.{plan_of, green_of}
 use Rattle.plan_judge.specs.Judgement.{judgement}
 use Rattle.service_level.specs.Delays.{whole, green_share, saturation_of, term_a, term_b, delay_of, figures_of, service_of, delay_level, service_level, level_of, outcome, value, letter}
-use Rattle.service_level.specs.Divisors.{Numbers, Divisors, divisors, u_ranged}
-use Rattle.service_level.specs.NoRed.{no_red_exact}
-use Rattle.service_level.specs.Positive.{delay_positive}
+use Rattle.service_level.proofs.Divisors.{divisors, u_ranged}
+use Rattle.service_level.specs.Divisors.{Numbers, Divisors}
+use Rattle.service_level.proofs.NoRed.{no_red_exact}
+use Rattle.service_level.proofs.Positive.{delay_positive}
 use Rattle.service_level.specs.lemmas.Ranged.{ranged_positive}
 use Rattle.tenths.specs.Tenths.{tenths_up, tenths_down, level_of_tenths}
-use Rattle.tenths.specs.Printed.{delay_printed, saturation_printed}
+use Rattle.tenths.proofs.Printed.{delay_printed, saturation_printed}
 use Rattle.delays.specs.Answer.{stream_figures, told, refusal, refused_at, told_outcome, told_value, told_letter}
-use Rattle.delays.specs.Told.{is_told, saturation_exact, saturation_next}
+use Rattle.delays.specs.Told.{saturation_exact, saturation_next}
+use Rattle.delays.proofs.ToldLaws.{is_told}
 use Rattle.delays.specs.lemmas.InRange.{car_of_lem, in_range}
 use Rattle.givendra.specs.Answers.{delay_answer}
 

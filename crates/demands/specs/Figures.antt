@@ -15,15 +15,17 @@ use Rattle.streams.specs.declared.TramFigures.{TramFigures}
 use Rattle.streams.specs.declared.Kind.TheVariants.{Car, Tram, Pedestrian, Cyclist, Island}
 use Rattle.flows.specs.Needs.{longest_cycle, crossing_speed, disturbance, kind_need, need_at}
 use Rattle.flows.specs.Saturation.{saturation_flow}
-use Rattle.flows.specs.Meaning.{tram_once, tram_twice, pedestrian_least, island_least, numerator, denominator, saturation_greatest}
+use Rattle.flows.proofs.Meaning.{island_least}
+use Rattle.flows.specs.Meaning.{tram_once, tram_twice, pedestrian_least, numerator, denominator, saturation_greatest}
 use Rattle.junction.specs.declared.Junction.{Junction}
 use Rattle.junction_questions.specs.Questions.{car_refers, count_refers}
 use Rattle.junction_places.specs.Places.{stream_numbered, numbered, numbered_at, zone_at, exists}
 use Rattle.junction_file.specs.Reading.{reading}
-use Rattle.junction_file.specs.TakenFile.{taken}
+use Rattle.junction_file.proofs.TakenFile.{taken}
 use Rattle.junction_description.specs.File.{FlowOf}
-use Rattle.junction_description.specs.Flows.{flow_counted}
-use Rattle.junction_figures.specs.Exact.{EnoughAt, pair_exact}
+use Rattle.junction_description.proofs.Flows.{flow_counted}
+use Rattle.junction_figures.specs.Exact.{EnoughAt}
+use Rattle.junction_figures.proofs.Exact.{pair_exact}
 use Rattle.junction_figures.specs.Figures.{stream_need, stream_flow, stream_saturation, stream_ratio}
 use Rattle.junction_figures.specs.Positive.{stream_ratio_least}
 use Rattle.plan_file.specs.Plans.{cycle_in_range}

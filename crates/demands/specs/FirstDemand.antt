@@ -1,15 +1,13 @@
 -- The customer's first demand, whole: the answer to every junction file, every plan file and every lent buffer, however malformed or short, is
 -- a result or one numbered refusal with its place, and a refusal alters no lent byte.
 --
--- `reading`, `judgement`, `worked` and `buffer`, `shiftVerdict` and `shiftedPlan` are what `junction_file::read`, `plan_judge::judge`,
--- `planner::work_out` and `offsets::shift` are proved to answer and to leave in what they are lent, with no `requires`, and to end; `delayVerdict` is
--- the verdict in the answer of `delays::delay` (delays/specs/Answer.antt), `portableVerdict` that of `roadworks::work_out`; `judgeAnswer`, `planAnswer`
+-- `reading`, `judgement`, `worked` and `buffer`, `shift_verdict` and `shifted_plan` are what `junction_file::read`, `plan_judge::judge`,
+-- `planner::work_out` and `offsets::shift` are proved to answer and to leave in what they are lent, with no `requires`, and to end; `delay_verdict` is
+-- the verdict in the answer of `delays::delay` (delays/specs/Answer.antt), `portable_verdict` that of `roadworks::work_out`; `judge_answer`, `plan_answer`
 -- and the like what the C library's functions are. Questions.antt has the questions in document 01's order, Asked.antt what it is that a verdict
 -- `Answers` them, Places.antt the numbers that the paper lists for each entry, with their places.
 use Rattle.std.specs.Prelude.{ℕ, ◌≤◌, List, ◌↔◌, ◌⊎◌, ◌≡◌, length}
-use Rattle.std.proofs.Common.{ap}
 use Rattle.fields.specs.Bytes.{number_at}
-use Rattle.fields.specs.Verdict.{is_refused}
 use Rattle.fields.specs.declared.Verdict.TheVariants.{Refused}
 use Rattle.counts.specs.declared.Wanted.{Wanted}
 use Rattle.junction_file.specs.Reading.{reading}
@@ -18,7 +16,6 @@ use Rattle.plan_rules.specs.Rules.{need_met, capacity_met, zone_met}
 use Rattle.plan_judge.specs.Judgement.{judgement}
 use Rattle.planner.specs.WorkingOut.{worked, buffer}
 use Rattle.delays.specs.Answer.{delay_verdict}
-use Rattle.offsets.specs.Refused.{shift_unaltered}
 use Rattle.offsets.specs.Shifting.{shift_verdict, shifted_plan}
 use Rattle.roadworks.specs.Roadworks.{portable_verdict}
 use Rattle.roadworks.specs.declared.Approach.{Approach}
@@ -28,12 +25,6 @@ use Rattle.givendra.specs.declared.CountRecord.{CountRecord}
 use Rattle.demands.specs.Asked.{Answers, AnswersBy}
 use Rattle.demands.specs.Places.{JunctionPlace, JudgePlace, DelayPlace, ShiftPlace, WorkPlace, FigurePlace, ListPlace, PortablePlace}
 use Rattle.demands.specs.Questions.{junction_asked, judge_asked, delay_asked, shift_asked, work_asked, intergreen_asked, need_asked, car_asked, list_asked, portable_asked, Formed, Every, FirstOf}
-use Rattle.demands.specs.lemmas.Answered.{read_answer, judge_answer_lem, work_answer}
-use Rattle.demands.specs.lemmas.Entries.{answers, kept, c_read_holds, c_judge_holds, delay_holds, c_shift_holds, c_shift_kept, c_plan_holds, c_kept}
-use Rattle.demands.specs.lemmas.Entries.{intergreen_holds, need_holds, saturation_holds, ratio_holds, newest_holds, c_portable_holds}
-use Rattle.demands.specs.lemmas.Library.{delay_answer_lem, delay_told, shift_answer_lem, shift_told, portable_answer_lem, portable_told}
-use Rattle.demands.specs.lemmas.Rules.{need_refused, capacity_refused, zone_refused, offset_refused}
-use Rattle.demands.specs.lemmas.Told.{junction_told, judge_told, work_told}
 
 pub record FirstDemand : Type 0 where
   pub read : (junction : List ℕ) → Answers (reading junction).verdict (junction_asked junction) (JunctionPlace (length junction) (reading junction).junction.held.streams)
@@ -87,33 +78,3 @@ pub record FirstDemand : Type 0 where
   -- of a lent list: 9 at the stream asked for
   pub newest : (list : List CountRecord) (w : Wanted)
       → AnswersBy (newest_answer list w).refusal (newest_answer list w).place (list_asked list w) (ListPlace w.stream)
-
-pub first_demand : FirstDemand
-first_demand =
-    record {
-      read = λ junction. answers _ _ _ (read_answer junction) (junction_told junction);
-      judged = λ junction plan. answers _ _ _ (judge_answer_lem junction plan) (judge_told junction plan);
-      delayed = λ junction plan n. answers _ _ _ (delay_answer_lem junction plan n) (delay_told junction plan n);
-      shifted = λ junction plan offset. answers _ _ _ (shift_answer_lem junction plan offset) (shift_told junction plan offset);
-      planned = λ junction lent. answers _ _ _ (work_answer junction (length lent)) (work_told junction (length lent));
-      refused_15 = need_refused;
-      refused_16 = capacity_refused;
-      refused_17 = zone_refused;
-      refused_24 = offset_refused;
-      unaltered = λ junction lent number place e. kept junction lent (ap is_refused e);
-      unaltered_plan = λ junction plan offset number place e. shift_unaltered junction plan offset (ap is_refused e);
-      c_read = c_read_holds;
-      c_judged = c_judge_holds;
-      c_delayed = delay_holds;
-      c_shifted = c_shift_holds;
-      c_planned = λ junction lent. c_plan_holds junction (length lent);
-      c_unaltered = c_kept;
-      c_unaltered_plan = c_shift_kept;
-      intergreen = intergreen_holds;
-      need = need_holds;
-      saturation = saturation_holds;
-      ratio = ratio_holds;
-      signalled = λ stretch speed a b. answers _ _ _ (portable_answer_lem stretch speed a b) (portable_told stretch speed a b);
-      c_signalled = c_portable_holds;
-      newest = newest_holds;
-    }

@@ -9,8 +9,8 @@ use Rattle.std.proofs.Math.Bool.{and-false}
 use Rattle.std.proofs.Math.Path.{ap}
 use Rattle.std.proofs.Math.Dec.{ltb}
 use Rattle.std.proofs.Math.ListN.{get_or-map}
-use Rattle.laws.specs.Largest.{largest_same}
-use Rattle.laws.specs.Search.{first_same}
+use Rattle.laws.proofs.Largest.{largest_same}
+use Rattle.laws.proofs.Search.{first_same}
 use Rattle.limits.specs.Limits.{most_streams, most_phases}
 use Rattle.laws.specs.Ranges.{Between}
 use Rattle.laws.specs.Tests.{by_test}

@@ -1,7 +1,7 @@
 -- One offset for every start, over files (document 02, 2026-06), as the C library answers it and leaves the lent plan file: which bytes are
 -- changed, and that neither judgement nor delay changes.
 --
--- `shiftAnswer` and `shiftedPlan` are what `givendra_shift` is proved to answer and to leave; `shifted` moves the starts of a plan file by any whole
+-- `shift_answer` and `shifted_plan` are what `givendra_shift` is proved to answer and to leave; `shifted` moves the starts of a plan file by any whole
 -- offset (offsets/specs/Shifting.antt); `StartByte` says of a place that it is one of the two bytes of a start.
 use Rattle.std.specs.Prelude.{ℕ, ◌+◌, ◌*◌, ◌/◌, ◌%◌, ◌≤◌, ◌<◌, List, ◌↔◌, ◌≡◌, length}
 use native.Mathlib.Omega.{arith}
@@ -11,19 +11,21 @@ use Rattle.fields.specs.Bytes.{byte_at, number_at}
 use Rattle.fields.specs.Verdict.{is_refused, not_refused}
 use Rattle.fields.specs.declared.Verdict.TheVariants.{Passed}
 use Rattle.junction_file.specs.Reading.{reading}
-use Rattle.junction_file.specs.TakenFile.{taken}
+use Rattle.junction_file.proofs.TakenFile.{taken}
 use Rattle.plan_file.specs.Plans.{plan_verdict, plan_of}
-use Rattle.plan_file.specs.WellFormed.{well_formed}
+use Rattle.plan_file.proofs.WellFormed.{well_formed}
 use Rattle.plan_judge.specs.Judgement.{judgement}
 use Rattle.plan_judge.specs.Meaning.{Acceptable}
 use Rattle.delays.specs.Answer.{stream_figures, told, delay_verdict, answer}
-use Rattle.delays.specs.Refused.{unless_same, verdict_passed}
+use Rattle.delays.specs.Refused.{unless_same}
+use Rattle.delays.proofs.Refused.{verdict_passed}
 use Rattle.delays.specs.lemmas.InRange.{car_of_lem}
 use Rattle.decimals.specs.Decimals.{most_decimal, value_of, decimal_of}
-use Rattle.offsets.specs.Long.{most_asked, most_shifted}
-use Rattle.offsets.specs.Refused.{shift_passed, shift_unaltered, shift_altered}
-use Rattle.offsets.specs.SameJudgement.{same_judgement, same_acceptable, shift_judged}
-use Rattle.offsets.specs.Shifted.{StartByte, others_kept, start_bytes, offset_modulo, shifted_size, cycle_same, green_shifted, shifted_formed}
+use Rattle.offsets.proofs.Long.{most_asked, most_shifted}
+use Rattle.offsets.proofs.Refused.{shift_passed, shift_unaltered, shift_altered}
+use Rattle.offsets.proofs.SameJudgement.{same_judgement, same_acceptable, shift_judged}
+use Rattle.offsets.specs.Shifted.{StartByte}
+use Rattle.offsets.proofs.Shifted.{others_kept, start_bytes, offset_modulo, shifted_size, cycle_same, green_shifted, shifted_formed}
 use Rattle.offsets.specs.Shifting.{moved, start_place, shifted, shift_verdict, shifted_plan}
 use Rattle.givendra.specs.Answered.{shift_told}
 use Rattle.givendra.specs.Answers.{judge_answer, delay_answer, shift_answer}

@@ -4,7 +4,8 @@ use Rattle.std.specs.Prelude.{ℕ, List, ◌≡◌}
 use Rattle.fields.specs.declared.Verdict.TheVariants.{Passed}
 use Rattle.junction_places.specs.Places.{exists}
 use Rattle.junction_file.specs.Reading.{reading}
-use Rattle.junction_figures.specs.Directions.{SameDirection, pair_others_unused}
+use Rattle.junction_figures.specs.Directions.{SameDirection}
+use Rattle.junction_figures.proofs.Directions.{pair_others_unused}
 use Rattle.givendra.specs.Answers.{intergreen_verdict, intergreen_answer}
 
 pub one_direction_alone : (one two : List ℕ) → (reading one).verdict ≡ Passed → (reading two).verdict ≡ Passed

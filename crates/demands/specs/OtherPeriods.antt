@@ -1,7 +1,7 @@
 -- Counts of other periods have no effect, over files (document 02, 2026-04): two junction files that are taken and differ in counts of other
 -- periods alone get the same flows, verdicts, plans, delays, shifts and figures.
 --
--- `JunctionFile` says of a file that it is taken, with so many streams, zones and counts (`taken-exactly`); `OnlyOtherPeriods` that the two
+-- `JunctionFile` says of a file that it is taken, with so many streams, zones and counts (`taken_exactly`); `OnlyOtherPeriods` that the two
 -- agree in design day, period, streams, zones and the counts of that period.
 use Rattle.std.specs.Prelude.{ℕ, List, ◌≡◌}
 use Rattle.std.proofs.Common.{sym, ◌∙◌, ap}
@@ -13,9 +13,10 @@ use Rattle.junction_places.specs.Ranks.{newest_rank}
 use Rattle.junction_questions.specs.Questions.{count_refers}
 use Rattle.junction_file.specs.OtherPeriods.{newest_in_period}
 use Rattle.junction_file.specs.Reading.{reading}
-use Rattle.junction_description.specs.Exactly.{taken_exactly}
+use Rattle.junction_description.proofs.Exactly.{taken_exactly}
 use Rattle.junction_description.specs.File.{JunctionFile}
-use Rattle.junction_description.specs.OtherPeriods.{OnlyOtherPeriods, SameButCounts, same_but_counts}
+use Rattle.junction_description.specs.OtherPeriods.{OnlyOtherPeriods, SameButCounts}
+use Rattle.junction_description.proofs.OtherPeriods.{same_but_counts}
 use Rattle.junction_figures.specs.Figures.{stream_flow}
 use Rattle.plan_judge.specs.Judgement.{judgement}
 use Rattle.plan_file.specs.Plans.{plan_of}

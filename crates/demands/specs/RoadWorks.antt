@@ -1,7 +1,7 @@
 -- Portable signals for road works (document 02, 2026-07), as the C library answers them: each refusal exactly, the least cycle, and what the signals
 -- mean for every number of cycles.
 --
--- `portableAnswer` is what `givendra_portable` is proved to answer. `asked_of` has M, and flow and S of both approaches; `firstTried` is T0; `greensAt`
+-- `portable_answer` is what `givendra_portable` is proved to answer. `asked_of` has M, and flow and S of both approaches; `first_tried` is T0; `greens_at`
 -- are the greens that the planner's steps give at a length, and `works` says that a length gives greens which keep the rules
 -- (roadworks/specs/Roadworks.antt); `Signals` is the meaning (roadworks/specs/Meaning.antt).
 use Rattle.std.specs.Prelude.{ℕ, ◌+◌, ◌-◌, ◌*◌, ◌≤◌, ◌<◌, true, false, ◌&&◌, cond, List, ◌↔◌, ◌≡◌, refl, length}
@@ -15,14 +15,15 @@ use Rattle.fields.specs.declared.Verdict.TheVariants.{Passed, Refused}
 use Rattle.decimals.specs.Decimals.{most_decimal, value_of, decimal_of}
 use Rattle.stretches.specs.Table.{listed, clearing_length, table_t, table_l, table_times}
 use Rattle.phase_lengths.specs.Phases.{ratio_sum}
-use Rattle.roadworks.specs.Answered.{signals, first_tried_least}
-use Rattle.roadworks.specs.Approaches.{intergreen_least, phases_right_lem}
-use Rattle.roadworks.specs.Cycle.{none_before}
-use Rattle.roadworks.specs.Large.{most_answered}
+use Rattle.roadworks.proofs.Answered.{signals, first_tried_least}
+use Rattle.roadworks.proofs.Approaches.{intergreen_least, phases_right_lem}
+use Rattle.roadworks.proofs.Cycle.{none_before}
+use Rattle.roadworks.proofs.Large.{most_answered}
 use Rattle.roadworks.specs.Meaning.{Enough, Signals}
-use Rattle.roadworks.specs.Refused.{GivenRight, BelowOne, refused_25, refused_26, refused_21, refused_22, refused_27, portable_passed, unless_number, unless_figures}
+use Rattle.roadworks.specs.Refused.{GivenRight, BelowOne}
+use Rattle.roadworks.proofs.RefusedLaws.{refused_25, refused_26, refused_21, refused_22, refused_27, portable_passed, unless_number, unless_figures}
 use Rattle.roadworks.specs.Roadworks.{in_range, intergreen, asked_of, phases_of, first_tried, greens_at, works, cycle_of, enough_waiting, portable_verdict, timing_at, timing, portable, no_timing}
-use Rattle.roadworks.specs.Works.{works_exact}
+use Rattle.roadworks.proofs.Works.{works_exact}
 use Rattle.roadworks.specs.declared.Approach.{Approach}
 use Rattle.roadworks.specs.declared.Timing.{Timing}
 use Rattle.givendra.specs.Answers.{portable_answer}

@@ -7,17 +7,17 @@ use Rattle.std.specs.Prelude.{ℕ, List, ◌↔◌, ◌≡◌, length, take}
 use Rattle.laws.specs.Ranges.{Between}
 use Rattle.fields.specs.declared.Verdict.TheVariants.{Passed}
 use Rattle.exact_times.specs.Leaves.{LeavesInTime, LeavesByLetter}
-use Rattle.exact_times.specs.Streams.{letter_same}
+use Rattle.exact_times.proofs.Streams.{letter_same}
 use Rattle.junction_places.specs.Places.{stream_numbered}
 use Rattle.junction_file.specs.Reading.{reading}
-use Rattle.junction_file.specs.TakenFile.{taken}
+use Rattle.junction_file.proofs.TakenFile.{taken}
 use Rattle.junction_figures.specs.Exact.{stream_moves}
 use Rattle.plan_file.specs.Plans.{plan_verdict, plan_of}
 use Rattle.plan_file.specs.Writing.{plan_size}
-use Rattle.plan_judge.specs.Demand3.{demand3}
+use Rattle.plan_judge.proofs.Demand3.{demand3}
 use Rattle.plan_judge.specs.Judgement.{judgement}
 use Rattle.plan_judge.specs.Meaning.{Acceptable}
-use Rattle.planner.specs.Planned.{planned_accepted, planned_formed}
+use Rattle.planner.proofs.Planned.{planned_accepted, planned_formed}
 use Rattle.planner.specs.WorkingOut.{worked, buffer}
 
 pub record ThirdDemand : Type 0 where

@@ -1,1 +1,2 @@
 // The customer's three demands, each one record over files: definitions and theorems alone.
+#![tactic(auto)]

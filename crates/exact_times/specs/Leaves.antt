@@ -12,6 +12,6 @@ unfoldable pub LeavesInTime : Stream → Stream → ℕ → ℕ → ℕ → Type
 LeavesInTime earlier later clearing reach seconds = Within (leaving earlier.kind clearing) (reaching later.kind reach) seconds
 
 -- the same by document 01's letter: compared over whole numbers, denominators multiplied out, roots by squares, a side below 0 being below
--- every root. That both are one is `letter-same` of Streams.antt.
+-- every root. That both are one is `letter_same` of proofs/Streams.antt.
 unfoldable pub LeavesByLetter : Stream → Stream → ℕ → ℕ → ℕ → Type 0
 LeavesByLetter earlier later clearing reach seconds = within (leaving earlier.kind clearing) (reaching later.kind reach) seconds ≡ true

@@ -1,4 +1,3 @@
-pub mod Farther
 pub mod Larger
 pub mod Leaves
 pub mod Numbers

@@ -1,1 +1,2 @@
 // What the comparison of two exact times means, roots included: definitions and theorems alone.
+#![tactic(auto)]

@@ -3,7 +3,8 @@ use Rattle.std.specs.Prelude.{ℕ, ◌+◌, ◌-◌, ◌≤◌, ◌<◌, Bool, t
 use Rattle.std.proofs.Common.{zero-le, true≢false, sym, ◌∙◌, ap, arith, leb-true, leb-false}
 use Rattle.std.proofs.lemmas.Bool.{not-true, not-false}
 use Rattle.laws.specs.Ranges.{Between}
-use Rattle.laws.specs.Search.{first_below, first_passes, first_fails, first_same}
+use Rattle.laws.proofs.Search.{first_passes, first_fails, first_same}
+use Rattle.laws.specs.Search.{first_below}
 use Rattle.laws.specs.Tests.{by_test}
 use Rattle.fields.specs.declared.Verdict.{Verdict}
 use Rattle.fields.specs.declared.Verdict.TheVariants.{Passed, Refused}

@@ -1,10 +1,12 @@
 // Fields of a file, and the answer that every reader gives (document 01, "The junction file" and "Questions in order").
+#![tactic(auto)]
+
 ghost use Rattle.std.specs.Prelude.{◌≡◌, ◌≤◌, ◌<◌, length};
 ghost use Rattle.fields.specs.Verdict.{ask as ask_of, is_refused, first_refusal};
 ghost use Rattle.fields.specs.Bytes.{byte_at, number_at, byte_in, number_in, field_end};
 
 // What the questions in order give: no refusal, or the first one with its number and place.
-#[derive(Drop)]
+#[derive(Clone, Copy)]
 pub enum Verdict {
     Passed,
     Refused { number: u8, place: usize },
@@ -44,6 +46,7 @@ pub fn ask(answer: bool, number: u8, place: usize, later: Verdict) -> Verdict
 }
 
 // The byte at a place, 0 past the end.
+#[tactic(auto, unfolding(crate::specs::Bytes::byte_at))]
 pub fn byte(s: &[u8], at: usize) -> u8
     ensures { result ≡ byte_at s.now at }
 {
@@ -51,6 +54,7 @@ pub fn byte(s: &[u8], at: usize) -> u8
 }
 
 // The number of two bytes at a place, high byte first; a byte past the end counts as 0.
+#[tactic(auto, using(crate::specs::Bytes::number_at_past), unfolding(crate::specs::Bytes::number_at))]
 pub fn number(s: &[u8], at: usize) -> u16
     ensures { result ≡ number_at s.now at }
 {
@@ -61,6 +65,7 @@ pub fn number(s: &[u8], at: usize) -> u16
 }
 
 // Whether the byte at a place is from low to high.
+#[tactic(auto, unfolding(crate::specs::Bytes::byte_in))]
 pub fn byte_in(s: &[u8], at: usize, low: u8, high: u8) -> bool
     ensures { result ≡ byte_in s.now at low high }
 {
@@ -69,6 +74,7 @@ pub fn byte_in(s: &[u8], at: usize, low: u8, high: u8) -> bool
 }
 
 // Whether the number at a place is from low to high.
+#[tactic(auto, unfolding(crate::specs::Bytes::number_in))]
 pub fn number_in(s: &[u8], at: usize, low: u16, high: u16) -> bool
     ensures { result ≡ number_in s.now at low high }
 {
@@ -77,6 +83,7 @@ pub fn number_in(s: &[u8], at: usize, low: u16, high: u16) -> bool
 }
 
 // Where the field at a place ends: it fits the file where that is no more than the file's length.
+#[tactic(auto, unfolding(crate::specs::Bytes::field_end))]
 pub fn field_end(s: &[u8], at: usize) -> usize
     requires { at ≤ length s.now }
     ensures { result ≡ field_end s.now at }

@@ -1,6 +1,7 @@
 // Prints the annex's tables, document 01's marked figures and the figures of its whole case as the library answers them, to be read
 // against the papers.
-use libc::STDOUT_FILENO;
+#![tactic(auto)]
+
 use phase_lengths::{Phase, Phases};
 use streams::{CarFigures, Kind, PedestrianFigures, Stream, TramFigures};
 
@@ -16,81 +17,84 @@ const CYCLES: [u8; 34] = [
     91, 87, 82, 79, 75, 72, 69, 67, 65, 63, 60, 58, 56, 54, 53,
 ];
 
-fn main() {
-    table_1();
-    table_3();
-    marked();
-    whole_case();
+fn main(rt: HostRuntime) {
+    table_1(&rt);
+    table_3(&rt);
+    marked(&rt);
+    whole_case(&rt);
 }
 
-fn put(text: &[u8]) {
-    io::write_all(STDOUT_FILENO, text);
+fn put(rt: &HostRuntime, text: &[u8]) {
+    let _ = rt.write_all(text);
 }
 
 // A number in a column of six.
-fn column(n: u64) {
+fn column(rt: &HostRuntime, n: u64) {
     if n < 100000 {
-        put(b" ");
+        put(rt, b" ");
     }
     if n < 10000 {
-        put(b" ");
+        put(rt, b" ");
     }
     if n < 1000 {
-        put(b" ");
+        put(rt, b" ");
     }
     if n < 100 {
-        put(b" ");
+        put(rt, b" ");
     }
     if n < 10 {
-        put(b" ");
+        put(rt, b" ");
     }
-    io::print_decimal(STDOUT_FILENO, n);
+    let _ = print!(rt; "{n}");
 }
 
-fn line(text: &[u8], n: u64) {
-    put(text);
-    column(n);
-    put(b"\n");
+fn line(rt: &HostRuntime, text: &[u8], n: u64) {
+    put(rt, text);
+    column(rt, n);
+    put(rt, b"\n");
 }
 
-fn table_1() {
-    put(b"Table 1: width in cm, straight base flow in E/h\n");
-    flow_rows();
-    put(b"\n");
+fn table_1(rt: &HostRuntime) {
+    put(rt, b"Table 1: width in cm, straight base flow in E/h\n");
+    flow_rows(rt);
+    put(rt, b"\n");
 }
 
-fn flow_rows() {
+fn flow_rows(rt: &HostRuntime) {
     for i in 0..37 {
-        flow_row(WIDTHS[i]);
+        flow_row(rt, WIDTHS[i]);
     }
 }
 
-fn flow_row(width: u16) {
-    column(width as u64);
-    column(flows::straight_flow(width) as u64);
-    put(b"\n");
+fn flow_row(rt: &HostRuntime, width: u16) {
+    column(rt, width as u64);
+    column(rt, flows::straight_flow(width) as u64);
+    put(rt, b"\n");
 }
 
-fn table_3() {
-    put(b"Table 3: trams an hour, cycle and needed green in s, one second more and needed green\n");
-    need_rows();
-    put(b"\n");
+fn table_3(rt: &HostRuntime) {
+    put(
+        rt,
+        b"Table 3: trams an hour, cycle and needed green in s, one second more and needed green\n",
+    );
+    need_rows(rt);
+    put(rt, b"\n");
 }
 
-fn need_rows() {
+fn need_rows(rt: &HostRuntime) {
     for i in 0..34 {
-        need_row(i as u8 + 1, CYCLES[i]);
+        need_row(rt, i as u8 + 1, CYCLES[i]);
     }
 }
 
-fn need_row(trams: u8, cycle: u8) {
+fn need_row(rt: &HostRuntime, trams: u8, cycle: u8) {
     let s = tram(true, 300, trams);
-    column(trams as u64);
-    column(cycle as u64);
-    column(flows::need(s, cycle as u16) as u64);
-    column(cycle as u64 + 1);
-    column(flows::need(s, cycle as u16 + 1) as u64);
-    put(b"\n");
+    column(rt, trams as u64);
+    column(rt, cycle as u64);
+    column(rt, flows::need(s, cycle as u16) as u64);
+    column(rt, cycle as u64 + 1);
+    column(rt, flows::need(s, cycle as u16 + 1) as u64);
+    put(rt, b"\n");
 }
 
 fn car(radius: u16) -> Stream {
@@ -138,97 +142,131 @@ fn pedestrian(crossing: u16, hourly: u16) -> Stream {
 }
 
 // The entry toward an uncounted pedestrian.
-fn clears(text: &[u8], i: Stream, clearing: u16) {
+fn clears(rt: &HostRuntime, text: &[u8], i: Stream, clearing: u16) {
     line(
+        rt,
         text,
         times::entry(i, pedestrian(70, 200), clearing, 0) as u64,
     );
 }
 
-fn marked() {
-    put(b"Marked figures\n");
-    clears(b" 1 car, l 140                             ", car(0), 140);
-    clears(b" 1 car, l 141                             ", car(0), 141);
-    clears(b" 2 car, l 0                               ", car(0), 0);
-    clears(b" 3 turn of radius 150, l 290              ", car(150), 290);
-    clears(b" 3 turn of radius 151, l 290              ", car(151), 290);
+fn marked(rt: &HostRuntime) {
+    put(rt, b"Marked figures\n");
     clears(
+        rt,
+        b" 1 car, l 140                             ",
+        car(0),
+        140,
+    );
+    clears(
+        rt,
+        b" 1 car, l 141                             ",
+        car(0),
+        141,
+    );
+    clears(rt, b" 2 car, l 0                               ", car(0), 0);
+    clears(
+        rt,
+        b" 3 turn of radius 150, l 290              ",
+        car(150),
+        290,
+    );
+    clears(
+        rt,
+        b" 3 turn of radius 151, l 290              ",
+        car(151),
+        290,
+    );
+    clears(
+        rt,
         b" 4 stop tram of 300, l 200                ",
         tram(true, 300, 15),
         200,
     );
     clears(
+        rt,
         b" 4 stop tram of 300, l 201                ",
         tram(true, 300, 15),
         201,
     );
     reaches(
+        rt,
         b" 5 the same, l 200, to standing car, r 75 ",
         tram(true, 300, 15),
         200,
         75,
     );
     reaches(
+        rt,
         b" 5 the same, l 200, to standing car, r 74 ",
         tram(true, 300, 15),
         200,
         74,
     );
     clears(
+        rt,
         b" 6 stop tram of 325, l 400                ",
         tram(true, 325, 15),
         400,
     );
     clears(
+        rt,
         b" 6 stop tram of 325, l 401                ",
         tram(true, 325, 15),
         401,
     );
     clears(
+        rt,
         b" 7 running tram of 300, l 200             ",
         tram(false, 300, 15),
         200,
     );
     reaches(
+        rt,
         b" 8 pedestrian, l 0, to standing car, r 75 ",
         pedestrian(70, 200),
         0,
         75,
     );
     crosses(
+        rt,
         b" 9 crossing 120, 200 people               ",
         pedestrian(120, 200),
     );
     crosses(
+        rt,
         b" 9 crossing 120, 120 people               ",
         pedestrian(120, 120),
     );
     crosses(
+        rt,
         b" 9 crossing 121, 200 people               ",
         pedestrian(121, 200),
     );
     line(
+        rt,
         b"10 width 540                              ",
         flows::straight_flow(540) as u64,
     );
     line(
+        rt,
         b"10 width 541                              ",
         flows::straight_flow(541) as u64,
     );
-    put(b"\n");
+    put(rt, b"\n");
 }
 
 // The entry toward a standing car.
-fn reaches(text: &[u8], i: Stream, clearing: u16, reach: u16) {
-    line(text, times::entry(i, car(0), clearing, reach) as u64);
+fn reaches(rt: &HostRuntime, text: &[u8], i: Stream, clearing: u16, reach: u16) {
+    line(rt, text, times::entry(i, car(0), clearing, reach) as u64);
 }
 
-fn crosses(text: &[u8], s: Stream) {
-    line(text, flows::need(s, 50) as u64);
+fn crosses(rt: &HostRuntime, text: &[u8], s: Stream) {
+    line(rt, text, flows::need(s, 50) as u64);
 }
 
-fn whole_case() {
-    put(b"Whole case\n");
+fn whole_case(rt: &HostRuntime) {
+    put(rt, b"Whole case\n");
     let motor = car(0);
     let walk = pedestrian(70, 200);
     let kind = motor.kind;
@@ -249,12 +287,20 @@ fn whole_case() {
             intergreen: back as u32,
             need: flows::need(walk, 50),
         };
-        line(b"saturation flow S                         ", s as u64);
-        line(b"flow ratio y in ten-thousandths           ", y as u64);
-        line(b"entry from stream 1 to stream 2           ", onward as u64);
-        line(b"entry from stream 2 to stream 1           ", back as u64);
+        line(rt, b"saturation flow S                         ", s as u64);
+        line(rt, b"flow ratio y in ten-thousandths           ", y as u64);
+        line(
+            rt,
+            b"entry from stream 1 to stream 2           ",
+            onward as u64,
+        );
+        line(
+            rt,
+            b"entry from stream 2 to stream 1           ",
+            back as u64,
+        );
         let sums = phase_lengths::sums_of(two_phases(first, second));
-        line(b"lost time L in s                          ", sums.lost);
+        line(rt, b"lost time L in s                          ", sums.lost);
     }
 }
 

@@ -42,7 +42,7 @@ gradient_percent g = 130 - 3 * g
 unfoldable pub conditions_percent : ℕ → ℕ
 conditions_percent k = cond (eqb k 1) 120 (cond (eqb k 2) 100 85)
 
--- formulas (24) to (26): Kturn = 400 / turnDivisor, with shares a straight, b left, c right in percent
+-- formulas (24) to (26): Kturn = 400 / turn_divisor, with shares a straight, b left, c right in percent
 unfoldable pub turn_divisor : ℕ → ℕ → ℕ
 turn_divisor b c = cond (leb 10 (b + c)) (4 * (100 - (b + c)) + 7 * b + 5 * c) 400
 

@@ -1,4 +1,6 @@
 // Needed greens, saturation flows and flow ratios of the annex, section 2 (document 01, "Needs and flows").
+#![tactic(auto)]
+
 ghost use Rattle.std.specs.Prelude.{◌≡◌, ◌-◌, ◌^◌, min};
 ghost use Rattle.flows.specs.Needs.{need_at, tram_need, longest_cycle, pedestrian_need, crossing_speed, disturbance, island_need};
 ghost use Rattle.flows.specs.Saturation.{straight_flow, turning_flow, base_flow, gradient_percent, conditions_percent};
@@ -12,6 +14,7 @@ pub const CAR_NEED: u32 = 8;
 
 // The needed green of a stream in seconds, at a cycle in seconds: 8 for cars (38), 10 or 20 for trams (Table 3), 6 for cyclists (40'), and for
 // pedestrians the time to cross, at least 6 (38 to 40; over an island 39'). More than 34 trams an hour, which no file holds, count as 34.
+#[tactic(auto, unfolding(crate::specs::Needs::need_at, crate::specs::Needs::kind_need))]
 pub fn need(s: Stream, cycle: u16) -> u32
     ensures { result ≡ need_at cycle s }
 {
@@ -26,6 +29,7 @@ pub fn need(s: Stream, cycle: u16) -> u32
 }
 
 // Annex 2.2, Table 3: one tram a cycle, or two.
+#[tactic(auto, unfolding(crate::specs::Needs::tram_need))]
 fn tram_need(t: TramFigures, cycle: u16) -> u32
     ensures { result ≡ tram_need cycle t }
 {
@@ -39,6 +43,7 @@ const TABLE3: [u16; 20] = [
 ];
 
 // The longest cycle in seconds in which a number of trams an hour needs 10 s; in a longer one they need 20 s.
+#[tactic(auto, unfolding(crate::specs::Needs::longest_cycle, crate::specs::Needs::table3))]
 pub fn longest_cycle(hourly: u8) -> u16
     ensures { result ≡ longest_cycle hourly }
 {
@@ -59,6 +64,7 @@ fn table3_column(hourly: u8) -> usize
 }
 
 // Formulas (38) to (40). The 3 s of a disturbed crossing go into the quotient as the way that pedestrians walk in them.
+#[tactic(auto, unfolding(crate::specs::Needs::pedestrian_need))]
 fn pedestrian_need(p: PedestrianFigures) -> u32
     ensures { result ≡ pedestrian_need p }
 {
@@ -69,6 +75,7 @@ fn pedestrian_need(p: PedestrianFigures) -> u32
 }
 
 // Formulas (38) to (40) with (39'): at least what the crossing needs without the island.
+#[tactic(auto, unfolding(crate::specs::Needs::island_need))]
 fn island_need(i: IslandFigures) -> u32
     ensures { result ≡ island_need i }
 {
@@ -79,6 +86,7 @@ fn island_need(i: IslandFigures) -> u32
 }
 
 // In dm/s, formula (39): 12, or 16 where the time is 0.75 of that.
+#[tactic(auto, unfolding(crate::specs::Needs::crossing_speed))]
 fn crossing_speed(p: PedestrianFigures) -> u32
     ensures { Bounded (crossing_speed p) 17 result }
 {
@@ -89,6 +97,7 @@ fn crossing_speed(p: PedestrianFigures) -> u32
 }
 
 // Formula (40), in seconds.
+#[tactic(auto, unfolding(crate::specs::Needs::disturbance))]
 fn disturbance(p: PedestrianFigures) -> u32
     ensures { Bounded (disturbance p) 4 result }
 {
@@ -97,6 +106,7 @@ fn disturbance(p: PedestrianFigures) -> u32
 
 // The straight base flow in E/h of an approach of a width in cm: Table 1 at the greatest listed width not above it, wider than
 // 540 by formula (20). A width below 300, which no file holds, has flow 0.
+#[tactic(auto, unfolding(crate::specs::Saturation::straight_flow))]
 pub fn straight_flow(width: u16) -> u32
     ensures { result ≡ straight_flow width }
 {
@@ -119,6 +129,7 @@ pub fn straight_flow(width: u16) -> u32
 }
 
 // Formula (22) in two rows, else (21).
+#[tactic(auto, unfolding(crate::specs::Saturation::turning_flow))]
 fn turning_flow(radius: u16, rows: u8) -> u32
     ensures { result ≡ turning_flow radius rows }
 {
@@ -131,6 +142,7 @@ fn turning_flow(radius: u16, rows: u8) -> u32
 }
 
 // Formulas (20) to (22).
+#[tactic(auto, unfolding(crate::specs::Saturation::base_flow))]
 fn base_flow(c: CarFigures) -> u32
     ensures { Bounded (base_flow c) (2 ^ 19) result }
 {
@@ -142,6 +154,7 @@ fn base_flow(c: CarFigures) -> u32
 }
 
 // Formula (23) in hundredths.
+#[tactic(auto, unfolding(crate::specs::Saturation::gradient_percent))]
 fn gradient_percent(gradient: u8) -> u64
     ensures { Bounded (gradient_percent gradient) 131 result }
 {
@@ -149,6 +162,7 @@ fn gradient_percent(gradient: u8) -> u64
 }
 
 // Table 2 in hundredths.
+#[tactic(auto, unfolding(crate::specs::Saturation::conditions_percent))]
 fn conditions_percent(conditions: u8) -> u64
     ensures { Bounded (conditions_percent conditions) 121 result }
 {
@@ -159,6 +173,7 @@ fn conditions_percent(conditions: u8) -> u64
 }
 
 // 400 / Kturn of formulas (24) to (26).
+#[tactic(auto, unfolding(crate::specs::Saturation::turn_divisor))]
 fn turn_divisor(left: u8, right: u8) -> u64
     ensures { Bounded (turn_divisor left right) (2 ^ 12) result }
 {
@@ -174,6 +189,7 @@ fn turn_divisor(left: u8, right: u8) -> u64
 // The saturation flow of a car stream in E/h, formula (28): the base flow is rounded down, and its product with the factors once.
 // Of numbers that no file holds, a straight width below 300 and a gradient field above 43 give 0, rows other than 2 count as 1,
 // conditions other than 1 and 2 count as 3, and shares above 100 in all leave none straight.
+#[tactic(auto, unfolding(crate::specs::Saturation::saturation_flow))]
 pub fn saturation_flow(c: CarFigures) -> u32
     ensures { result ≡ saturation_flow c }
 {
@@ -187,6 +203,7 @@ pub fn saturation_flow(c: CarFigures) -> u32
 
 // The flow ratio y of a flow and a saturation flow s in E/h, in ten-thousandths, rounded up, formula (29). An s of 0, which no
 // file gives, is answered by 4,294,967,295, more than any ratio.
+#[tactic(auto, unfolding(crate::specs::Saturation::flow_ratio))]
 pub fn flow_ratio(flow: u16, s: u32) -> u32
     ensures { result ≡ flow_ratio flow s }
 {

@@ -1,20 +1,12 @@
 -- What the answer over a lent list means (document 01, "The junction file"; document 02, 2026-04): the flow of a usable record than which none is
 -- newer; 9 where no record is usable, as where a period out of range is asked for; file days and records of other periods have no effect.
-use Rattle.std.specs.Prelude.{ℕ, ◌<◌, List, ◌↔◌, length}
-use Rattle.std.proofs.Common.{eq-zero-or-pos, sym, ◌∙◌, le-leb}
-use native.Mathlib.Omega.{arith}
-use Rattle.std.proofs.Math.Logic.{⊎_elim}
-use Rattle.std.proofs.Math.Path.{◌≡◌, ap}
-use Rattle.laws.specs.Largest.{largest_of, largest_same}
-use Rattle.laws.specs.Ranges.{Between}
-use Rattle.limits.specs.Limits.{least_period, greatest_period}
-use Rattle.counts.specs.Newest.{rank, rank_day, rank_flow}
+use Rattle.std.specs.Prelude.{ℕ, ◌<◌, List, length}
+use Rattle.std.proofs.Math.Path.{◌≡◌}
 use Rattle.counts.specs.Chosen as counts
 use Rattle.counts.specs.OtherPeriods as others
 use Rattle.counts.specs.declared.Count.{Count}
 use Rattle.counts.specs.declared.Wanted.{Wanted}
-use Rattle.givendra.specs.Answers.{figure}
-use Rattle.givendra.specs.LentList.{wanted, record_at, count_in, record_rank, list_rank, newest_figure, newest_answer}
+use Rattle.givendra.specs.LentList.{record_at, count_in, newest_answer}
 use Rattle.givendra.specs.declared.CountRecord.{CountRecord}
 use Rattle.givendra.specs.declared.Figure.{Figure}
 
@@ -23,7 +15,7 @@ abbrev pub not_found : Wanted → Figure
 not_found w = record { place = w.stream; refusal = 9; value = 0 }
 
 -- the count at a place of a list, from 0
-abbrev count_at : List CountRecord → ℕ → Count
+abbrev pub count_at : List CountRecord → ℕ → Count
 count_at list i = count_in (record_at list i)
 
 module _ (list : List CountRecord) (w : Wanted) where
@@ -42,41 +34,6 @@ module _ (list : List CountRecord) (w : Wanted) where
     pub chosen : ChosenRecord day flow
     pub answer : newest_answer list w ≡ record { place = 0; refusal = 0; value = flow }
 
-  -- by the highest rank: it is so where that is not 0, and 9 is the answer where it is
-  ranked : 0 < list_rank w list → Answered
-  unfolding list_rank record_rank newest_answer newest_figure figure
-  ranked h = record {
-    day = rank_day (list_rank w list);
-    flow = rank_flow (list_rank w list);
-    chosen = counts.chosen w (count_at list) (length list) h;
-    answer = simp (le-leb _ _ h);
-  }
-
-  unranked : list_rank w list ≡ 0 → newest_answer list w ≡ not_found w
-  unfolding newest_answer newest_figure figure
-  unranked e = simp e
-
-  -- it is so wherever a record is usable
-  pub usable_answered : (i : ℕ) → UsableRecord i → Answered
-  unfolding list_rank record_rank
-  usable_answered i u =
-      ⊎_elim (λ (none : list_rank w list ≡ 0). absurd ((counts.none_usable w (count_at list) (length list)).0 none i u)) ranked
-      (eq-zero-or-pos (list_rank w list))
-
-  -- 9 where no record is usable, and only there
-  pub none_usable : (newest_answer list w ≡ not_found w) ↔ ((i : ℕ) → UsableRecord i → ⊥)
-  unfolding list_rank record_rank
-  none_usable = (
-    λ e i u. let other : ◌≡◌ {A = ℕ} 9 0 = ap (λ (f : Figure). f.refusal) (sym e ∙ (usable_answered i u).answer) in omega arith,
-    λ none. unranked ((counts.none_usable w (count_at list) (length list)).1 none),
-  )
-
--- 9 where a period outside 1 to 4 is asked for, whatever the records say
-pub period_out : (list : List CountRecord) (stream design period : ℕ) → (Between least_period greatest_period period → ⊥)
-    → newest_answer list (wanted stream design period) ≡ not_found (wanted stream design period)
-period_out list stream design period out =
-    (none_usable list (wanted stream design period)).1 (λ i u. out (rw u.usable.in_period at u.usable.period))
-
 -- two lists of as many records that differ at most in file days
 pub record SameButFileDays (a b : List CountRecord) : Type 0 where
   pub records : length a ≡ length b
@@ -85,22 +42,6 @@ pub record SameButFileDays (a b : List CountRecord) : Type 0 where
   pub flow : (i : ℕ) → i < length a → (record_at a i).flow ≡ (record_at b i).flow
   pub period : (i : ℕ) → i < length a → (record_at a i).period ≡ (record_at b i).period
 
--- they get the same answer
-pub file_days_unused : (a b : List CountRecord) (w : Wanted) → SameButFileDays a b → newest_answer a w ≡ newest_answer b w
-unfolding newest_answer list_rank record_rank
-file_days_unused a b w same =
-    let ranks : List CountRecord → ℕ → ℕ = λ list i. record_rank w (record_at list i) in
-    let alike : (i : ℕ) → i < length a → count_at a i ≡ count_at b i =
-    λ i low. simp (same.stream i low, same.count_day i low, same.flow i low, same.period i low) in
-    ap (newest_figure w.stream)
-    (largest_same (ranks a) (ranks b) (length a) (λ i low. ap (rank w) (alike i low)) ∙ ap (largest_of (ranks b)) same.records)
-
 -- two lists with the same counts in the period asked for, in whatever order; records of other periods may differ, in number too
 abbrev pub SameInPeriod : ℕ → List CountRecord → List CountRecord → Type 0
 SameInPeriod period a b = others.SameInPeriod period (count_at a) (length a) (count_at b) (length b)
-
--- they get the same answer
-pub other_periods_unused : (a b : List CountRecord) (w : Wanted) → SameInPeriod w.period a b → newest_answer a w ≡ newest_answer b w
-unfolding newest_answer list_rank record_rank
-other_periods_unused a b w same =
-    ap (newest_figure w.stream) (others.highest_same w (count_at a) (count_at b) (length a) (length b) same)

@@ -1,12 +1,13 @@
 -- File days change no answer of the C library (document 01, "The junction file": changing file days changes no answer of any entry).
 use Rattle.std.specs.Prelude.{ℕ, List, ◌≡◌}
-use Rattle.junction_file.specs.FileDays.{OnlyFileDays, file_days_without_effect}
-use Rattle.plan_judge.specs.FileDays.{file_days_unjudged}
-use Rattle.offsets.specs.FileDays.{file_days_unshifted}
+use Rattle.junction_file.specs.FileDays.{OnlyFileDays}
+use Rattle.junction_file.proofs.FileDays.{file_days_without_effect}
+use Rattle.plan_judge.proofs.FileDays.{file_days_unjudged}
+use Rattle.offsets.proofs.FileDays.{file_days_unshifted}
 use Rattle.offsets.specs.Shifting.{shifted_plan}
-use Rattle.planner.specs.Demand2.{file_days_unplanned}
-use Rattle.delays.specs.FileDays.{file_days_undelayed}
-use Rattle.givendra.specs.Answers.{judge_answer, shift_answer, plan_answer, junction_answer, intergreen_answer, need_answer, saturation_answer, ratio_answer, delay_answer}
+use Rattle.planner.proofs.Demand2.{file_days_unplanned}
+use Rattle.delays.proofs.FileDays.{file_days_undelayed}
+use Rattle.givendra.specs.Answers.{judge_answer, shift_answer, plan_answer, junction_answer, delay_answer}
 
 -- of two junction files that differ only in file days
 module _ (s t : List ℕ) (only : OnlyFileDays s t) where
@@ -27,22 +28,6 @@ module _ (s t : List ℕ) (only : OnlyFileDays s t) where
   pub junction_same : junction_answer s ≡ junction_answer t
   unfolding junction_answer
   junction_same = rw (file_days_without_effect s t only)
-
-  pub intergreen_same : (from to : ℕ) → intergreen_answer s from to ≡ intergreen_answer t from to
-  unfolding intergreen_answer
-  intergreen_same from to = rw (file_days_without_effect s t only)
-
-  pub need_same : (n cycle : ℕ) → need_answer s n cycle ≡ need_answer t n cycle
-  unfolding need_answer
-  need_same n cycle = rw (file_days_without_effect s t only)
-
-  pub saturation_same : (n : ℕ) → saturation_answer s n ≡ saturation_answer t n
-  unfolding saturation_answer
-  saturation_same n = rw (file_days_without_effect s t only)
-
-  pub ratio_same : (n : ℕ) → ratio_answer s n ≡ ratio_answer t n
-  unfolding ratio_answer
-  ratio_same n = rw (file_days_without_effect s t only)
 
   pub delay_same : (plan : List ℕ) (n : ℕ) → delay_answer s plan n ≡ delay_answer t plan n
   unfolding delay_answer

@@ -1,5 +1,7 @@
 // The library for programs in other languages (include/givendra.h): every answer but the release is a struct of numbers. A refusal's number is
 // 0 where nothing is refused, and the other numbers are 0 where something is.
+#![tactic(auto)]
+
 ghost use Rattle.std.specs.Prelude.{◌≡◌, max, length};
 ghost use Rattle.offsets.specs.Shifting.{shifted_plan};
 ghost use Rattle.planner.specs.WorkingOut.{buffer as buffer_after};
@@ -16,7 +18,7 @@ use service_level::{Level, Service};
 
 // A refusal's place and number, 0 and 0 where nothing is refused: the judge's answer, and that of a shift.
 #[repr(C)]
-#[derive(Drop)]
+#[derive(Clone, Copy)]
 pub struct JudgeAnswer {
     pub place: usize,
     pub refusal: u8,
@@ -24,7 +26,7 @@ pub struct JudgeAnswer {
 
 // The cycle in seconds, how many lengths were tried, and how many bytes the plan file has.
 #[repr(C)]
-#[derive(Drop)]
+#[derive(Clone, Copy)]
 pub struct PlanAnswer {
     pub place: usize,
     pub refusal: u8,
@@ -35,7 +37,7 @@ pub struct PlanAnswer {
 
 // What a junction file holds.
 #[repr(C)]
-#[derive(Drop)]
+#[derive(Clone, Copy)]
 pub struct JunctionAnswer {
     pub place: usize,
     pub refusal: u8,
@@ -48,7 +50,7 @@ pub struct JunctionAnswer {
 
 // A figure of the annex.
 #[repr(C)]
-#[derive(Drop)]
+#[derive(Clone, Copy)]
 pub struct Figure {
     pub place: usize,
     pub refusal: u8,
@@ -57,7 +59,7 @@ pub struct Figure {
 
 // What is told of a car stream in a plan: 1 a delay in seconds, 2 a saturation of 1 or more, 3 no red, with value 0; and the level's letter.
 #[repr(C)]
-#[derive(Drop)]
+#[derive(Clone, Copy)]
 pub struct DelayAnswer {
     pub place: usize,
     pub refusal: u8,
@@ -75,6 +77,7 @@ pub extern "C" fn givendra_release() -> u32
 }
 
 // Judges a plan file for a junction file.
+#[tactic(auto, unfolding(crate::specs::Answers::judge_answer))]
 #[unsafe(no_mangle)]
 pub extern "C" fn givendra_judge(junction: &[u8], plan: &[u8]) -> JudgeAnswer
     ensures { result ≡ judge_answer junction.now plan.now }
@@ -82,6 +85,7 @@ pub extern "C" fn givendra_judge(junction: &[u8], plan: &[u8]) -> JudgeAnswer
     answer_of(plan_judge::judge(junction, plan))
 }
 
+#[tactic(auto, unfolding(crate::specs::Answers::answer_of))]
 fn answer_of(v: Verdict) -> JudgeAnswer
     ensures { result ≡ answer_of v }
 {
@@ -98,6 +102,7 @@ fn answer_of(v: Verdict) -> JudgeAnswer
 }
 
 // Adds an offset in seconds to every start of the lent plan file, modulo its cycle.
+#[tactic(auto, unfolding(crate::specs::Answers::shift_answer))]
 #[unsafe(no_mangle)]
 pub extern "C" fn givendra_shift(junction: &[u8], plan: &mut [u8], offset: usize) -> JudgeAnswer
     ensures result { result ≡ shift_answer junction.now plan.old offset }
@@ -107,6 +112,7 @@ pub extern "C" fn givendra_shift(junction: &[u8], plan: &mut [u8], offset: usize
 }
 
 // Works out a plan for a junction file, and writes its plan file into the lent buffer.
+#[tactic(auto, unfolding(crate::specs::Answers::plan_answer))]
 #[unsafe(no_mangle)]
 pub extern "C" fn givendra_work_out(junction: &[u8], buffer: &mut [u8]) -> PlanAnswer
     ensures result { result ≡ plan_answer junction.now (length buffer.old) }
@@ -133,6 +139,7 @@ pub extern "C" fn givendra_work_out(junction: &[u8], buffer: &mut [u8]) -> PlanA
 }
 
 // Reads a junction file.
+#[tactic(auto, unfolding(crate::specs::Answers::junction_answer))]
 #[unsafe(no_mangle)]
 pub extern "C" fn givendra_read_junction(junction: &[u8]) -> JunctionAnswer
     ensures { result ≡ junction_answer junction.now }
@@ -162,6 +169,7 @@ pub extern "C" fn givendra_read_junction(junction: &[u8]) -> JunctionAnswer
     }
 }
 
+#[tactic(auto, unfolding(crate::specs::Answers::figure))]
 fn figure_of(v: Verdict, value: u32) -> Figure
     ensures { result ≡ figure_of v value }
 {
@@ -180,6 +188,7 @@ fn figure_of(v: Verdict, value: u32) -> Figure
 }
 
 // The intergreen time from one stream to another, in seconds.
+#[tactic(auto, unfolding(crate::specs::Answers::intergreen_answer))]
 #[unsafe(no_mangle)]
 pub extern "C" fn givendra_intergreen(junction: &[u8], from: usize, to: usize) -> Figure
     ensures { result ≡ intergreen_answer junction.now from to }
@@ -194,6 +203,7 @@ pub extern "C" fn givendra_intergreen(junction: &[u8], from: usize, to: usize) -
     )
 }
 
+#[tactic(auto, unfolding(crate::specs::Answers::intergreen_verdict))]
 fn intergreen_verdict(j: Junction, from: usize, to: usize) -> Verdict
     ensures { result ≡ intergreen_verdict j from to }
 {
@@ -202,6 +212,7 @@ fn intergreen_verdict(j: Junction, from: usize, to: usize) -> Verdict
 }
 
 // The needed green of a stream at a cycle, both in seconds.
+#[tactic(auto, unfolding(crate::specs::Answers::need_answer))]
 #[unsafe(no_mangle)]
 pub extern "C" fn givendra_need(junction: &[u8], stream: usize, cycle: u16) -> Figure
     ensures { result ≡ need_answer junction.now stream cycle }
@@ -216,6 +227,7 @@ pub extern "C" fn givendra_need(junction: &[u8], stream: usize, cycle: u16) -> F
     )
 }
 
+#[tactic(auto, unfolding(crate::specs::Answers::need_verdict))]
 fn need_verdict(j: Junction, stream: usize, cycle: u16) -> Verdict
     ensures { result ≡ need_verdict j stream cycle }
 {
@@ -224,6 +236,7 @@ fn need_verdict(j: Junction, stream: usize, cycle: u16) -> Verdict
 }
 
 // The saturation flow of a car stream, in E/h.
+#[tactic(auto, unfolding(crate::specs::Answers::saturation_answer))]
 #[unsafe(no_mangle)]
 pub extern "C" fn givendra_saturation_flow(junction: &[u8], stream: usize) -> Figure
     ensures { result ≡ saturation_answer junction.now stream }
@@ -239,6 +252,7 @@ pub extern "C" fn givendra_saturation_flow(junction: &[u8], stream: usize) -> Fi
 }
 
 // The flow ratio of a car stream, in ten-thousandths.
+#[tactic(auto, unfolding(crate::specs::Answers::ratio_answer))]
 #[unsafe(no_mangle)]
 pub extern "C" fn givendra_flow_ratio(junction: &[u8], stream: usize) -> Figure
     ensures { result ≡ ratio_answer junction.now stream }
@@ -253,6 +267,7 @@ pub extern "C" fn givendra_flow_ratio(junction: &[u8], stream: usize) -> Figure
     )
 }
 
+#[tactic(auto, unfolding(crate::specs::Answers::car_verdict))]
 fn car_verdict(j: Junction, stream: usize) -> Verdict
     ensures { result ≡ car_verdict j stream }
 {
@@ -265,6 +280,7 @@ fn car_verdict(j: Junction, stream: usize) -> Verdict
 }
 
 // The delay and the level of service of a car stream in a plan.
+#[tactic(auto, unfolding(crate::specs::Answers::delay_answer, delays::specs::Answer::refusal, delays::specs::Answer::refused_at, delays::specs::Answer::told_outcome, delays::specs::Answer::told_value, delays::specs::Answer::told_letter))]
 #[unsafe(no_mangle)]
 pub extern "C" fn givendra_delay(junction: &[u8], plan: &[u8], stream: usize) -> DelayAnswer
     ensures { result ≡ delay_answer junction.now plan.now stream }
@@ -282,6 +298,7 @@ pub extern "C" fn givendra_delay(junction: &[u8], plan: &[u8], stream: usize) ->
     }
 }
 
+#[tactic(auto, unfolding(service_level::specs::Delays::outcome, service_level::specs::Delays::value))]
 fn told_answer(service: Service, level: Level) -> DelayAnswer
     ensures { result ≡ told_answer service level }
 {
@@ -314,7 +331,7 @@ fn told_answer(service: Service, level: Level) -> DelayAnswer
 // Portable signals for a narrowed stretch: the table's t and L in tenths of a second, the cycle, and start and length of each approach's green, in
 // seconds.
 #[repr(C)]
-#[derive(Drop)]
+#[derive(Clone, Copy)]
 pub struct PortableAnswer {
     pub place: usize,
     pub refusal: u8,
@@ -328,6 +345,7 @@ pub struct PortableAnswer {
 }
 
 // Works out portable signals for a stretch in metres, a speed in km/h and two approaches.
+#[tactic(auto, unfolding(crate::specs::Answers::portable_answer, roadworks::specs::Roadworks::refusal, roadworks::specs::Roadworks::refused_at, roadworks::specs::Roadworks::figures))]
 #[unsafe(no_mangle)]
 pub extern "C" fn givendra_portable(
     stretch: usize,
@@ -372,7 +390,7 @@ fn timed_answer(timing: Timing) -> PortableAnswer
 
 // A count record of a lent list.
 #[repr(C)]
-#[derive(Drop)]
+#[derive(Clone, Copy)]
 pub struct CountRecord {
     pub stream: u8,
     pub count_day: u16,
@@ -382,6 +400,7 @@ pub struct CountRecord {
 }
 
 // The higher of two ranks: the highest so far, and that of a record. Its file day has no part in it.
+#[tactic(auto, unfolding(crate::specs::LentList::record_rank))]
 fn newer_record(best: u32, stream: usize, design_day: u16, period: usize, r: CountRecord) -> u32
     ensures { result ≡ max best (record_rank (wanted stream design_day period) r) }
 {
@@ -418,6 +437,7 @@ pub extern "C" fn givendra_newest_count(
     newest_figure(stream, best)
 }
 
+#[tactic(auto, unfolding(crate::specs::LentList::newest_figure))]
 fn newest_figure(stream: usize, rank: u32) -> Figure
     ensures { result ≡ newest_figure stream rank }
 {

@@ -1,5 +1,7 @@
 // Prints a junction file's matrix of intergreen times, the pairs that are not checked, and each stream's figures; or the refusal. The file is
 // named by the argument, or is standard input. What fails is told on standard error.
+#![tactic(auto)]
+
 use console::{JUNCTION_ROOM, put, put_column, put_number};
 use dates::Date;
 use fields::Verdict;
@@ -8,36 +10,36 @@ use limits::MOST_SECONDS;
 use streams::{Kind, TramFigures};
 
 // What is printed: a table with a line for each stream.
-#[derive(Drop)]
+#[derive(Clone, Copy)]
 enum Table {
     Matrix,
     Unchecked,
     Streams,
 }
 
-fn main() {
-    if !((os::arg_count() <= 2) & console::is_name(1)) {
-        console::usage(b"intergreens [JUNCTION-FILE]");
+fn main(rt: HostRuntime) {
+    if !(!console::has_argument(&rt, 2) & console::is_name(&rt, 1)) {
+        console::usage(&rt, b"intergreens [JUNCTION-FILE]");
         return;
     }
     let mut junction = [0; JUNCTION_ROOM];
-    tell_input(&mut junction);
+    tell_input(&rt, &mut junction);
 }
 
 // The lent buffer takes the junction file.
-fn tell_input(junction: &mut [u8]) {
-    let got = console::read_input(b"intergreens", 1, junction);
+fn tell_input(rt: &HostRuntime, junction: &mut [u8]) {
+    let got = console::read_input(rt, b"intergreens", 1, junction);
     if got.read {
         let n = got.size;
-        answer(&junction[0..n]);
+        answer(rt, &junction[0..n]);
     }
 }
 
-fn answer(junction: &[u8]) {
+fn answer(rt: &HostRuntime, junction: &[u8]) {
     // Sixteen streams take some 5,000 bytes.
     let mut text = [0u8; 16384];
     let n = put_answer(junction_file::read(junction), &mut text);
-    console::write_text(b"intergreens", &text, n);
+    console::write_text(rt, b"intergreens", &text, n);
 }
 
 fn put_answer(reading: Reading, out: &mut [u8]) -> usize {
@@ -73,7 +75,7 @@ fn put_unchecked(j: Junction, out: &mut [u8], at: usize) -> usize {
 
 // Each stream's figures, under the period in which the flows were counted.
 fn put_streams(j: Junction, out: &mut [u8], at: usize) -> usize {
-    let title = put(out, at, b"\n\n_streams, with flows counted in period ");
+    let title = put(out, at, b"\n\nStreams, with flows counted in period ");
     let period = put_number(out, title, j.period as u64);
     let begin = put(out, period, b"\n");
     put_lines(j, Table::Streams, out, begin)

@@ -1,4 +1,6 @@
 // A junction, and what the bodies of a junction file's fields say (document 01, "The junction file").
+#![tactic(auto)]
+
 ghost use Rattle.std.specs.Prelude.{◌≡◌};
 ghost use Rattle.junction.specs.Layout.{design_day, planned_period, heading_in_range, radius_in_range, shares_in_range, car_in_range, car_of, tram_in_range, tram_of, pedestrian_in_range, walk_of, pedestrian_of, cyclist_in_range, cyclist_of, island_in_range, island_of, stream_length_right, stream_in_range, kind_of, stream_of, zone_in_range, zone_of, count_in_range, count_of};
 
@@ -12,7 +14,7 @@ use streams::{
 };
 
 // One stream's side of a zone: the stream's number, from 1, and its distances in decimetres.
-#[derive(Drop)]
+#[derive(Clone, Copy)]
 pub struct Side {
     pub stream: u8,
     pub clearing: u16,
@@ -20,14 +22,14 @@ pub struct Side {
 }
 
 // A conflict zone of two streams.
-#[derive(Drop)]
+#[derive(Clone, Copy)]
 pub struct Zone {
     pub a: Side,
     pub b: Side,
 }
 
 // How many of each a file has, and the tag of its last field so far, 0 before the first.
-#[derive(Drop)]
+#[derive(Clone, Copy)]
 pub struct Held {
     pub last: u8,
     pub streams: usize,
@@ -35,7 +37,7 @@ pub struct Held {
     pub counts: usize,
 }
 
-#[derive(Drop)]
+#[derive(Clone, Copy)]
 pub struct Junction {
     // The design day, and the period that is planned.
     pub day: u16,
@@ -47,13 +49,14 @@ pub struct Junction {
 }
 
 // The answer to a junction file: what the questions give, and the junction, to be used only where nothing is refused.
-#[derive(Drop)]
+#[derive(Clone, Copy)]
 pub struct Reading {
     pub verdict: fields::Verdict,
     pub junction: Junction,
 }
 
 // The design day of a heading's body.
+#[tactic(auto, unfolding(crate::specs::Layout::design_day))]
 pub fn design_day(b: &[u8]) -> u16
     ensures { result ≡ design_day b.now }
 {
@@ -61,6 +64,7 @@ pub fn design_day(b: &[u8]) -> u16
 }
 
 // The period that a heading's body plans.
+#[tactic(auto, unfolding(crate::specs::Layout::planned_period))]
 pub fn planned_period(b: &[u8]) -> u8
     ensures { result ≡ planned_period b.now }
 {
@@ -68,6 +72,7 @@ pub fn planned_period(b: &[u8]) -> u8
 }
 
 // Whether the period of a heading's body is in range.
+#[tactic(auto, unfolding(crate::specs::Layout::heading_in_range))]
 pub fn heading_in_range(b: &[u8]) -> bool
     ensures { result ≡ heading_in_range b.now }
 {
@@ -75,6 +80,7 @@ pub fn heading_in_range(b: &[u8]) -> bool
 }
 
 // Whether a stream's body is as long as its kind asks; that of an unknown kind is not judged.
+#[tactic(auto, unfolding(crate::specs::Layout::stream_length_right))]
 pub fn stream_length_right(b: &[u8]) -> bool
     ensures { result ≡ stream_length_right b.now }
 {
@@ -93,6 +99,7 @@ pub fn stream_length_right(b: &[u8]) -> bool
 }
 
 // Whether the kind of a stream's body is known and each of its numbers in range.
+#[tactic(auto, unfolding(crate::specs::Layout::stream_in_range))]
 pub fn stream_in_range(b: &[u8]) -> bool
     ensures { result ≡ stream_in_range b.now }
 {
@@ -107,6 +114,7 @@ pub fn stream_in_range(b: &[u8]) -> bool
 }
 
 // The stream of a body, read as a cyclist's where the kind is unknown.
+#[tactic(auto, unfolding(crate::specs::Layout::stream_of))]
 pub fn stream_of(b: &[u8]) -> Stream
     ensures { result ≡ stream_of b.now }
 {
@@ -116,6 +124,7 @@ pub fn stream_of(b: &[u8]) -> Stream
     }
 }
 
+#[tactic(auto, unfolding(crate::specs::Layout::kind_of))]
 fn kind_of(b: &[u8]) -> Kind
     ensures { result ≡ kind_of b.now }
 {
@@ -129,6 +138,7 @@ fn kind_of(b: &[u8]) -> Kind
     }
 }
 
+#[tactic(auto, unfolding(crate::specs::Layout::car_in_range))]
 fn car_in_range(b: &[u8]) -> bool
     ensures { result ≡ car_in_range b.now }
 {
@@ -143,12 +153,14 @@ fn car_in_range(b: &[u8]) -> bool
         & shares_in_range(b)
 }
 
+#[tactic(auto, unfolding(crate::specs::Layout::radius_in_range))]
 fn radius_in_range(b: &[u8]) -> bool
     ensures { result ≡ radius_in_range b.now }
 {
     (number(b, 4) == 0) | number_in(b, 4, 30, 9999)
 }
 
+#[tactic(auto, unfolding(crate::specs::Layout::shares_in_range))]
 fn shares_in_range(b: &[u8]) -> bool
     ensures { result ≡ shares_in_range b.now }
 {
@@ -156,6 +168,7 @@ fn shares_in_range(b: &[u8]) -> bool
     (sum <= 100) & ((number(b, 4) == 0) | (sum == 0))
 }
 
+#[tactic(auto, unfolding(crate::specs::Layout::car_of))]
 fn car_of(b: &[u8]) -> Kind
     ensures { result ≡ car_of b.now }
 {
@@ -172,12 +185,14 @@ fn car_of(b: &[u8]) -> Kind
     })
 }
 
+#[tactic(auto, unfolding(crate::specs::Layout::tram_in_range))]
 fn tram_in_range(b: &[u8]) -> bool
     ensures { result ≡ tram_in_range b.now }
 {
     byte_in(b, 1, 1, 6) & byte_in(b, 2, 0, 1) & number_in(b, 3, 100, 600) & byte_in(b, 5, 1, 34)
 }
 
+#[tactic(auto, unfolding(crate::specs::Layout::tram_of))]
 fn tram_of(b: &[u8]) -> Kind
     ensures { result ≡ tram_of b.now }
 {
@@ -188,6 +203,7 @@ fn tram_of(b: &[u8]) -> Kind
     })
 }
 
+#[tactic(auto, unfolding(crate::specs::Layout::pedestrian_in_range))]
 fn pedestrian_in_range(b: &[u8]) -> bool
     ensures { result ≡ pedestrian_in_range b.now }
 {
@@ -199,6 +215,7 @@ fn pedestrian_in_range(b: &[u8]) -> bool
         & byte_in(b, 8, 0, 1)
 }
 
+#[tactic(auto, unfolding(crate::specs::Layout::pedestrian_of))]
 fn pedestrian_of(b: &[u8]) -> Kind
     ensures { result ≡ pedestrian_of b.now }
 {
@@ -206,6 +223,7 @@ fn pedestrian_of(b: &[u8]) -> Kind
 }
 
 // The figures that kinds 3 and 5 have.
+#[tactic(auto, unfolding(crate::specs::Layout::walk_of))]
 fn walk_of(b: &[u8]) -> PedestrianFigures
     ensures { result ≡ walk_of b.now }
 {
@@ -218,12 +236,14 @@ fn walk_of(b: &[u8]) -> PedestrianFigures
     }
 }
 
+#[tactic(auto, unfolding(crate::specs::Layout::cyclist_in_range))]
 fn cyclist_in_range(b: &[u8]) -> bool
     ensures { result ≡ cyclist_in_range b.now }
 {
     byte_in(b, 1, 1, 6) & byte_in(b, 2, 0, 1)
 }
 
+#[tactic(auto, unfolding(crate::specs::Layout::cyclist_of))]
 fn cyclist_of(b: &[u8]) -> Kind
     ensures { result ≡ cyclist_of b.now }
 {
@@ -232,6 +252,7 @@ fn cyclist_of(b: &[u8]) -> Kind
     })
 }
 
+#[tactic(auto, unfolding(crate::specs::Layout::island_in_range))]
 fn island_in_range(b: &[u8]) -> bool
     ensures { result ≡ island_in_range b.now }
 {
@@ -242,6 +263,7 @@ fn island_in_range(b: &[u8]) -> bool
         & (number(b, 13) % 5 == 0)
 }
 
+#[tactic(auto, unfolding(crate::specs::Layout::island_of))]
 fn island_of(b: &[u8]) -> Kind
     ensures { result ≡ island_of b.now }
 {
@@ -254,6 +276,7 @@ fn island_of(b: &[u8]) -> Kind
 }
 
 // Whether each distance of a zone's body is in range.
+#[tactic(auto, unfolding(crate::specs::Layout::zone_in_range))]
 pub fn zone_in_range(b: &[u8]) -> bool
     ensures { result ≡ zone_in_range b.now }
 {
@@ -264,6 +287,7 @@ pub fn zone_in_range(b: &[u8]) -> bool
 }
 
 // The zone of a body.
+#[tactic(auto, unfolding(crate::specs::Layout::zone_of))]
 pub fn zone_of(b: &[u8]) -> Zone
     ensures { result ≡ zone_of b.now }
 {
@@ -282,6 +306,7 @@ pub fn zone_of(b: &[u8]) -> Zone
 }
 
 // Whether flow and period of a count's body are in range.
+#[tactic(auto, unfolding(crate::specs::Layout::count_in_range))]
 pub fn count_in_range(b: &[u8]) -> bool
     ensures { result ≡ count_in_range b.now }
 {
@@ -289,6 +314,7 @@ pub fn count_in_range(b: &[u8]) -> bool
 }
 
 // The count of a body; its file day is not kept.
+#[tactic(auto, unfolding(crate::specs::Layout::count_of))]
 pub fn count_of(b: &[u8]) -> Count
     ensures { result ≡ count_of b.now }
 {

@@ -1,15 +1,12 @@
 -- Two junction files that differ in counts of other periods alone, by their bytes (document 02, 2026-04), and what their junctions then share.
 use Rattle.std.specs.Prelude.{ℕ, ◌+◌, ◌-◌, List, ◌↔◌, ◌≡◌}
 use Rattle.std.proofs.Common.{arith, sym, ◌∙◌, ap}
-use Rattle.laws.specs.Filled.{filled_same}
 use Rattle.laws.specs.Ranges.{Between}
 use Rattle.counts.specs.declared.Count.{Count}
 use Rattle.junction.specs.declared.Junction.{Junction}
-use Rattle.junction.specs.Layout.{design_day, planned_period, stream_of, zone_of, count_of}
+use Rattle.junction.specs.Layout.{design_day, planned_period, count_of}
 use Rattle.junction_file.specs.OtherPeriods.{Counted, SameInPeriod}
-use Rattle.junction_file.specs.Reading.{reading}
-use Rattle.junction_description.specs.Exactly.{described_part}
-use Rattle.junction_description.specs.File.{body, JunctionFile}
+use Rattle.junction_description.specs.File.{body}
 use Rattle.junction_description.specs.lemmas.Holds.{Holds, count_there}
 
 -- one of the fields after the one with number first says a count; its file day is no part of it
@@ -30,7 +27,7 @@ pub record OnlyOtherPeriods (s t : List ℕ) (streams zones counts others : ℕ)
 
 -- a junction has a count exactly where its file says it
 module _ (s : List ℕ) (j : Junction) (n z c : ℕ) (h : Holds s j n z c) (x : Count) where
-  counted_said : Counted j x → CountSaid s (n + z) c x
+  pub counted_said : Counted j x → CountSaid s (n + z) c x
   counted_said held =
       let low = held.held in
       let at : n + z + (held.place + 1) ≡ n + z + held.place + 1 = omega arith in
@@ -40,7 +37,7 @@ module _ (s : List ℕ) (j : Junction) (n z c : ℕ) (h : Holds s j n z c) (x : 
         said = rw at (sym (count_there s j n z c h held.place (omega (arith, h.counts_held))) ∙ held.there);
       }
 
-  said_counted : CountSaid s (n + z) c x → Counted j x
+  pub said_counted : CountSaid s (n + z) c x → Counted j x
   said_counted said =
       let w = said.listed in
       let at : n + z + (said.place - 1) + 1 ≡ n + z + said.place = omega arith in
@@ -57,32 +54,3 @@ pub record SameButCounts (j k : Junction) : Type 0 where
   pub streams : j.streams ≡ k.streams
   pub zones : j.zones ≡ k.zones
   pub planned : SameInPeriod j k
-
-module _ (s t : List ℕ) (n z c o : ℕ) (one : JunctionFile s n z c) (two : JunctionFile t n z o) (only : OnlyOtherPeriods s t n z c o) where
-  pub same_but_counts : SameButCounts (reading s).junction (reading t).junction
-  same_but_counts =
-      let h = (described_part s n z c one).holds in
-      let g = (described_part t n z o two).holds in
-      let period = h.period ∙ only.period ∙ sym g.period in
-      record {
-        many_streams = h.streams_held ∙ sym g.streams_held;
-        many_zones = h.zones_held ∙ sym g.zones_held;
-        streams =
-            h.stream_places
-            ∙ filled_same _ _ _ n (λ i low. ap stream_of (only.same_streams (i + 1) (omega arith)))
-            ∙ sym g.stream_places;
-        zones =
-            h.zone_places
-            ∙ filled_same _ _ _ z (λ i low. let at : n + (i + 1) ≡ n + i + 1 = omega arith in ap zone_of (rw at at (only.same_zones (i + 1) (omega arith))))
-            ∙ sym g.zone_places;
-        planned =
-            record {
-              day = h.day ∙ only.day ∙ sym g.day;
-              period = period;
-              counts = λ x e.
-                  let same = only.same_counts x (e ∙ h.period) in (
-                    λ u. said_counted t (reading t).junction n z o g x (same.0 (counted_said s (reading s).junction n z c h x u)),
-                    λ u. said_counted s (reading s).junction n z c h x (same.1 (counted_said t (reading t).junction n z o g x u)),
-                  );
-            };
-      }

@@ -1,6 +1,6 @@
 -- The annex's figures of a junction that was read: entries of pairs, needs, flows, saturation flows, flow ratios.
-use Rattle.std.specs.Prelude.{ℕ, ◌≤◌, ◌<◌, Bool, ◌&&◌, ◌||◌, not, cond, ◌↔◌, ltb, eqb}
-use Rattle.laws.specs.Largest.{largest_of, largest_at_most}
+use Rattle.std.specs.Prelude.{ℕ, Bool, ◌&&◌, ◌||◌, not, cond, ltb, eqb}
+use Rattle.laws.specs.Largest.{largest_of}
 use Rattle.laws.specs.Search.{first_below}
 use Rattle.streams.specs.declared.Kind.{Kind}
 use Rattle.streams.specs.declared.Stream.{Stream}
@@ -34,12 +34,6 @@ zone_entry j n m z = entry_at n m (stream_numbered j n) (stream_numbered j m) z
 -- the entry of the pair: the largest over its zones, 0 where it has none
 unfoldable pub pair_entry : Junction → ℕ → ℕ → ℕ
 pair_entry j n m = largest_of (λ i. zone_entry j n m (zone_at j i)) j.held.zones
-
--- it is the least number that is at least the entry at each zone of the pair
-pub pair_least : (j : Junction) (n m g : ℕ)
-    → (pair_entry j n m ≤ g) ↔ ((i : ℕ) → i < j.held.zones → zone_entry j n m (zone_at j i) ≤ g)
-unfolding pair_entry
-pair_least j n m g = largest_at_most (λ i. zone_entry j n m (zone_at j i)) j.held.zones g
 
 -- two streams share a zone
 unfoldable pub shares_at : Junction → ℕ → ℕ → ℕ → Bool

@@ -1,4 +1,6 @@
 // The annex's figures of a junction that was read. Streams are named by their numbers, from 1.
+#![tactic(auto)]
+
 ghost use Rattle.std.specs.Prelude.{◌≡◌, ◌&&◌, eqb};
 ghost use Rattle.junction_figures.specs.Figures.{pair_entry, shares_at, first_shared, shares_zone, unchecked as unchecked_pair, stream_need, stream_flow, stream_day, kind_saturation, stream_saturation, stream_ratio};
 
@@ -8,6 +10,7 @@ use limits::MOST_ZONES;
 use streams::{Kind, Stream};
 
 // The entry from stream n to stream m, the largest over the zones of the pair; 0 where they share none.
+#[tactic(auto, unfolding(junction_places::specs::Places::zone_at, crate::specs::Figures::zone_entry, crate::specs::Figures::forward, crate::specs::Figures::backward, crate::specs::Figures::pair_entry))]
 pub fn pair_entry(j: Junction, n: usize, m: usize) -> u16
     ensures { result ≡ pair_entry j n m }
 {
@@ -40,6 +43,7 @@ fn joins(n: usize, m: usize, x: u8, y: u8) -> bool
 }
 
 // Whether streams n and m share a zone.
+#[tactic(auto, unfolding(crate::specs::Figures::shares_zone))]
 pub fn shares_zone(j: Junction, n: usize, m: usize) -> bool
     ensures { result ≡ shares_zone j n m }
 {
@@ -47,6 +51,7 @@ pub fn shares_zone(j: Junction, n: usize, m: usize) -> bool
 }
 
 // Whether two streams are in different phases and share no zone, so that their greens are not compared.
+#[tactic(auto, unfolding(crate::specs::Figures::unchecked))]
 pub fn unchecked(j: Junction, n: usize, m: usize) -> bool
     ensures { result ≡ unchecked_pair j n m }
 {
@@ -55,6 +60,7 @@ pub fn unchecked(j: Junction, n: usize, m: usize) -> bool
     !(first.phase == second.phase) & !shares_zone(j, n, m)
 }
 
+#[tactic(auto, unfolding(crate::specs::Figures::first_shared))]
 fn first_shared(j: Junction, n: usize, m: usize) -> usize
     ensures { result ≡ first_shared j n m }
 {
@@ -69,6 +75,7 @@ fn first_shared(j: Junction, n: usize, m: usize) -> usize
     i
 }
 
+#[tactic(auto, unfolding(crate::specs::Figures::shares_at, crate::specs::Figures::forward, crate::specs::Figures::backward))]
 fn shares_at(j: Junction, n: usize, m: usize, i: usize) -> bool
     ensures { result ≡ shares_at j n m i }
 {
@@ -77,6 +84,7 @@ fn shares_at(j: Junction, n: usize, m: usize, i: usize) -> bool
 }
 
 // The needed green of stream n at a cycle.
+#[tactic(auto, unfolding(crate::specs::Figures::stream_need))]
 pub fn stream_need(j: Junction, n: usize, cycle: u16) -> u32
     ensures { result ≡ stream_need j n cycle }
 {
@@ -85,6 +93,7 @@ pub fn stream_need(j: Junction, n: usize, cycle: u16) -> u32
 
 // The flow of car stream n in E/h: of the counts of the period that is planned, the one with the greatest count day not after the design day, of
 // equals the larger; 0 without one.
+#[tactic(auto, unfolding(crate::specs::Figures::stream_flow))]
 pub fn stream_flow(j: Junction, n: usize) -> u16
     ensures { result ≡ stream_flow j n }
 {
@@ -92,6 +101,7 @@ pub fn stream_flow(j: Junction, n: usize) -> u16
 }
 
 // The day of the count that gives car stream n its flow, 0 without one.
+#[tactic(auto, unfolding(crate::specs::Figures::stream_day))]
 pub fn stream_day(j: Junction, n: usize) -> u16
     ensures { result ≡ stream_day j n }
 {
@@ -99,6 +109,7 @@ pub fn stream_day(j: Junction, n: usize) -> u16
 }
 
 // The saturation flow of car stream n in E/h, 0 for another kind.
+#[tactic(auto, unfolding(crate::specs::Figures::stream_saturation))]
 pub fn stream_saturation(j: Junction, n: usize) -> u32
     ensures { result ≡ stream_saturation j n }
 {
@@ -120,6 +131,7 @@ pub fn saturation(s: Stream) -> u32
 }
 
 // The flow ratio of car stream n in ten-thousandths.
+#[tactic(auto, unfolding(crate::specs::Figures::stream_ratio))]
 pub fn stream_ratio(j: Junction, n: usize) -> u32
     ensures { result ≡ stream_ratio j n }
 {

@@ -1,6 +1,7 @@
 -- The count that gives a car of a junction its flow (document 01, "The junction file"; document 02, 2026-04): of those of the period that is
 -- planned, the greatest count day not after the design day; of equals, the larger flow.
 use Rattle.std.specs.Prelude.{ℕ, ◌<◌, ◌↔◌, ◌≡◌}
+use Rattle.counts.proofs.Chosen as choice
 use Rattle.counts.specs.Chosen as counts
 use Rattle.counts.specs.Newest.{rank_day, rank_flow}
 use Rattle.junction.specs.declared.Junction.{Junction}
@@ -19,9 +20,9 @@ module _ (j : Junction) (n : ℕ) where
   -- where the rank is not 0, it is that of the count that gives the stream its flow
   pub chosen : 0 < newest_rank j n → Chosen (rank_day (newest_rank j n)) (rank_flow (newest_rank j n))
   unfolding newest_rank rank_at
-  chosen h = counts.chosen (wanted_for j n) (count_at j) j.held.counts h
+  chosen h = choice.chosen (wanted_for j n) (count_at j) j.held.counts h
 
   -- it is 0 where there is no usable count, and only there
   pub none_usable : (newest_rank j n ≡ 0) ↔ ((i : ℕ) → UsableCount i → ⊥)
   unfolding newest_rank rank_at
-  none_usable = counts.none_usable (wanted_for j n) (count_at j) j.held.counts
+  none_usable = choice.none_usable (wanted_for j n) (count_at j) j.held.counts

@@ -7,15 +7,12 @@ use Rattle.std.proofs.Math.Seq.{ext_get_or}
 use borrow.Author.Tests.{ltb-true, ltb-false, eqb-true, eqb-false}
 use Rattle.laws.specs.Tests.{by_test}
 use Rattle.fields.specs.Bytes.{byte_at, number_at, field_end, fits, body_of, number_in, byte_in, byte_at_past, field_long}
-use Rattle.fields.specs.Verdict.{is_refused}
 use Rattle.fields.specs.declared.Verdict.TheVariants.{Passed}
 use Rattle.junction.specs.declared.Junction.{Junction}
 use Rattle.junction.specs.Layout.{count_length, count_in_range, count_of}
-use Rattle.junction_places.specs.Blank.{blank}
 use Rattle.junction_questions.specs.lemmas.Passed.{field_passed}
 use Rattle.junction_questions.specs.Questions.{length_right, in_range, refers, body_verdict, named_by, field_verdict}
-use Rattle.junction_file.specs.Reading.{with_count, with_field, after_field, read_field, read_from, reading}
-use Rattle.junction_file.specs.lemmas.Rest.{passed_field}
+use Rattle.junction_file.specs.Reading.{with_count, with_field, after_field, read_field}
 
 -- the place i is one of the two bytes of a file day, the sixth and seventh after the tag of a count, of the fields from a place on; fuel is
 -- at least the number of those fields
@@ -52,7 +49,7 @@ body_past s at k h = byte_at_past (body_of s at) k (omega (arith, body_short s a
 
 -- all that is read of a count
 record SameCount (b c : List ℕ) : Type 0 where
-  long : length b ≡ length c
+  pub long : length b ≡ length c
   stream : byte_at b 0 ≡ byte_at c 0
   day : number_at b 1 ≡ number_at c 1
   flow : number_at b 5 ≡ number_at c 5
@@ -68,9 +65,9 @@ unfolding with_field with_count count_of
 with_count_same b c j e = rw (e.stream, e.day, e.flow, e.period)
 
 -- two files agree from a place on, but for the file days
-record Alike (fuel : ℕ) (s t : List ℕ) (at : ℕ) : Type 0 where
-  long : length s ≡ length t
-  same : (i : ℕ) → at ≤ i → (FileDay fuel s at i → ⊥) → byte_at s i ≡ byte_at t i
+pub record Alike (fuel : ℕ) (s t : List ℕ) (at : ℕ) : Type 0 where
+  pub long : length s ≡ length t
+  pub same : (i : ℕ) → at ≤ i → (FileDay fuel s at i → ⊥) → byte_at s i ≡ byte_at t i
 
 module _ (fuel : ℕ) (s t : List ℕ) (at : ℕ) (a : Alike (suc fuel) s t at) where
   near_same : (i : ℕ) → at ≤ i → i < at + 6 → byte_at s i ≡ byte_at t i
@@ -83,7 +80,7 @@ module _ (fuel : ℕ) (s t : List ℕ) (at : ℕ) (a : Alike (suc fuel) s t at) 
   unfolding number_at
   number_same = rw (near_same (at + 1) (omega arith) (omega arith), near_same (at + 1 + 1) (omega arith) (omega arith))
 
-  end_same : field_end s at ≡ field_end t at
+  pub end_same : field_end s at ≡ field_end t at
   unfolding field_end
   end_same = rw number_same
 
@@ -127,7 +124,7 @@ module _ (fuel : ℕ) (s t : List ℕ) (at : ℕ) (a : Alike (suc fuel) s t at) 
   same_body other = ext_get_or 0 _ _ body_long_same (λ i h. body_same i (λ e. absurd (other e)))
 
   -- so the field is answered alike
-  field_same : (j : Junction) → read_field s at j ≡ read_field t at j
+  pub field_same : (j : Junction) → read_field s at j ≡ read_field t at j
   unfolding read_field field_verdict after_field
   field_same j =
       by_test (eqb (byte_at s at) 4)
@@ -144,7 +141,7 @@ module _ (fuel : ℕ) (s t : List ℕ) (at : ℕ) (a : Alike (suc fuel) s t at) 
       omega (arith, body_short s at)
 
   -- and after it the files agree too
-  alike_later : (j : Junction) → field_verdict s at j ≡ Passed → Alike fuel s t (field_end s at)
+  pub alike_later : (j : Junction) → field_verdict s at j ≡ Passed → Alike fuel s t (field_end s at)
   unfolding FileDay
   alike_later j p =
       record {
@@ -155,20 +152,3 @@ module _ (fuel : ℕ) (s t : List ℕ) (at : ℕ) (a : Alike (suc fuel) s t at) 
             ⊎_elim (λ (e : i ≡ at + 6). omega arith) (λ (e : i ≡ at + 7). omega arith) here.1)
             none d);
       }
-
--- and so are all the fields from a place on
-from_same : (fuel : ℕ) (s t : List ℕ) (at : ℕ) (j : Junction) → Alike fuel s t at → read_from fuel s at j ≡ read_from fuel t at j
-unfolding read_from
-from_same zero s t at j a = rw a.long
-from_same (suc fuel) s t at j a =
-    let later = from_same fuel s t (field_end s at) (read_field s at j).junction in
-    rw (← a.long, ← field_same fuel s t at a j, ← end_same fuel s t at a)
-    (by_test (is_refused (read_field s at j).verdict)
-    (λ e. rw e)
-    (λ e. rw (e, later (alike_later fuel s t at a j (passed_field s at j e)))))
-
--- the whole answer, verdict and junction, is the same
-pub file_days_without_effect : (s t : List ℕ) → OnlyFileDays s t → reading s ≡ reading t
-unfolding reading
-file_days_without_effect s t o =
-    rw (← o.long, from_same (length s) s t 0 blank (record { long = o.long; same = λ i h none. o.same i none }))

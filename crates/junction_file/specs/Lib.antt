@@ -4,5 +4,4 @@ pub mod Numbers
 pub mod OtherPeriods
 pub mod Reading
 pub mod Taken
-pub mod TakenFile
 pub mod lemmas

@@ -2,6 +2,7 @@
 -- for each stream, the same newest count.
 use Rattle.std.specs.Prelude.{ℕ, ◌≡◌}
 use Rattle.std.proofs.Common.{◌∙◌, ap}
+use Rattle.counts.proofs.OtherPeriods.{highest_same}
 use Rattle.counts.specs.Chosen.{highest}
 use Rattle.counts.specs.OtherPeriods as counts
 use Rattle.counts.specs.declared.Count.{Count}
@@ -23,5 +24,5 @@ pub newest_in_period : (j k : Junction) → SameInPeriod j k → (n : ℕ) → n
 unfolding newest_rank rank_at
 newest_in_period j k same n =
     let wanted : wanted_for j n ≡ wanted_for k n = rw (same.day, same.period) in
-    counts.highest_same (wanted_for j n) (count_at j) (count_at k) j.held.counts k.held.counts same.counts
+    highest_same (wanted_for j n) (count_at j) (count_at k) j.held.counts k.held.counts same.counts
     ∙ ap (λ w. highest w (count_at k) k.held.counts) wanted

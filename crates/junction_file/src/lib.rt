@@ -1,4 +1,6 @@
 // Reads a junction file: a junction, or the first refusal of document 01's questions 1 to 9.
+#![tactic(auto)]
+
 ghost use Rattle.std.specs.Prelude.{◌≡◌, length};
 ghost use Rattle.junction_places.specs.Blank.{blank as blank_of};
 ghost use Rattle.junction_file.specs.lemmas.Named.{stream_place};
@@ -11,6 +13,7 @@ use limits::{MOST_BYTES, MOST_COUNTS, MOST_STREAMS, MOST_ZONES};
 
 // The answer to every sequence of bytes: a junction, or the first refusal with its number and place. The junction is to be used only where
 // nothing is refused.
+#[tactic(auto, unfolding(crate::specs::Reading::reading))]
 pub fn read(file: &[u8]) -> Reading
     ensures { result ≡ reading file.now }
 {
@@ -27,6 +30,7 @@ pub fn read(file: &[u8]) -> Reading
 }
 
 // The junction stays in this function: passing it on for each field would copy all of it.
+#[tactic(auto, unfolding(junction_places::specs::Places::stream_at, fields::specs::Bytes::byte_at, crate::specs::Reading::with_field, crate::specs::Reading::with_heading, junction_questions::specs::Questions::within_limit, crate::specs::Reading::with_stream, crate::specs::Reading::with_zone, crate::specs::Reading::with_count))]
 fn read_fields(file: &[u8]) -> Reading
     ensures { result ≡ read_from (length file.now) file.now 0 blank_of }
 {
@@ -95,6 +99,7 @@ fn read_fields(file: &[u8]) -> Reading
 }
 
 // The place of the stream with a number; the number 0 has the place past the last.
+#[tactic(auto, unfolding(crate::specs::lemmas::Named::stream_place))]
 fn stream_place(n: u8) -> usize
     ensures { result ≡ stream_place n }
 {
@@ -104,6 +109,7 @@ fn stream_place(n: u8) -> usize
     n as usize - 1
 }
 
+#[tactic(auto, unfolding(crate::specs::Reading::at_end))]
 fn at_end(size: usize, j: Junction) -> Reading
     ensures { result ≡ at_end size j }
 {

@@ -6,7 +6,7 @@ use Rattle.std.specs.Prelude.{Bool, true, false, ◌&&◌, ◌↔◌, ◌≡◌,
 use Rattle.std.proofs.Math.Bool.{cond}
 use Rattle.std.proofs.lemmas.Bool.{false≢true}
 use borrow.Author.Tests.{leb-false, lt-leb, eq-eqb}
-use Rattle.laws.specs.Largest.{largest_at_most}
+use Rattle.laws.proofs.Largest.{largest_at_most}
 use Rattle.laws.specs.Ranges.{Between}
 use Rattle.laws.specs.Tests.{by_test, both, both_left, both_right}
 use Rattle.limits.specs.Limits.{most_phases}

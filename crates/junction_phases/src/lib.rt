@@ -1,5 +1,7 @@
 // The phases of a junction that was read: their flow ratios, intergreens toward the next phase and needed greens (document 01, "Working out
 // a plan"). Phases and streams are named by their numbers, from 1.
+#![tactic(auto)]
+
 ghost use Rattle.std.specs.Prelude.{cond, ◌≡◌, ◌≤◌, min, get_or};
 ghost use Rattle.limits.specs.Limits.{most_phases, most_streams};
 ghost use Rattle.laws.specs.ByNumber.{ByNumber};
@@ -191,6 +193,7 @@ pub fn phases_at(j: Junction, loads: Loads, conflicts: Conflicts, t: u16) -> Pha
 }
 
 // The same phases with their needs at another cycle.
+#[tactic(auto, unfolding(crate::specs::JunctionPhases::phases_at))]
 pub fn at_cycle(j: Junction, q: Phases, t: u16) -> Phases
     requires taken { Taken j }
     requires phases { q ≡ phases_at j 0 }

@@ -1,4 +1,6 @@
 // What stands at a place of a junction, from 0, or has a number, from 1, and the count that gives a stream its flow.
+#![tactic(auto)]
+
 ghost use Rattle.std.specs.Prelude.{◌≡◌, ℕ, ◌<◌, get_or};
 ghost use Rattle.junction_places.specs.Blank.{no_stream, no_count, no_zone};
 ghost use Rattle.junction_places.specs.Places.{stream_at, zone_at, stream_numbered, numbered as numbered_in, exists as exists_in};
@@ -10,6 +12,7 @@ use limits::{MOST_COUNTS, MOST_STREAMS, MOST_ZONES};
 use streams::{CarFigures, Kind, Stream};
 
 // Whether a number is that of one of so many streams.
+#[tactic(auto, unfolding(crate::specs::Places::numbered))]
 pub fn numbered(streams: usize, n: usize) -> bool
     ensures { result ≡ numbered_in streams n }
 {
@@ -17,6 +20,7 @@ pub fn numbered(streams: usize, n: usize) -> bool
 }
 
 // Whether a stream has a number.
+#[tactic(auto, unfolding(crate::specs::Places::exists))]
 pub fn exists(j: Junction, n: usize) -> bool
     ensures { result ≡ exists_in j n }
 {
@@ -24,6 +28,7 @@ pub fn exists(j: Junction, n: usize) -> bool
 }
 
 // The stream with a number, from 1; an empty place where no stream has the number.
+#[tactic(auto, unfolding(crate::specs::Places::stream_numbered))]
 pub fn stream_numbered(j: Junction, n: usize) -> Stream
     ensures { result ≡ stream_numbered j n }
 {
@@ -34,6 +39,7 @@ pub fn stream_numbered(j: Junction, n: usize) -> Stream
 }
 
 // The stream at a place, from 0; an empty place past the sixteenth.
+#[tactic(auto, unfolding(crate::specs::Places::stream_at))]
 fn stream_at(j: Junction, i: usize) -> Stream
     ensures { result ≡ stream_at j i }
 {
@@ -77,6 +83,7 @@ pub fn no_count() -> Count
 }
 
 // The zone at a place, from 0; an empty place past the sixty-fourth.
+#[tactic(auto, unfolding(crate::specs::Places::zone_at))]
 pub fn zone_at(j: Junction, i: usize) -> Zone
     ensures { result ≡ zone_at j i }
 {
@@ -99,6 +106,7 @@ pub fn no_zone() -> Zone
 }
 
 // For each number of one byte the rank of the count that gives its stream the flow, by one pass over the counts.
+#[tactic(auto, unfolding(crate::specs::Places::count_at, crate::specs::Ranks::rank_at, crate::specs::Ranks::newest_rank))]
 pub fn newest_ranks(j: Junction) -> [u32; 256]
     ensures { (n : ℕ) → n < 256 → get_or result n 0 ≡ newest_rank j n }
 {
@@ -125,6 +133,7 @@ pub fn newest_ranks(j: Junction) -> [u32; 256]
 }
 
 // The rank of the count that gives the stream with a number its flow, 0 where none is usable.
+#[tactic(auto, unfolding(crate::specs::Places::count_at, crate::specs::Ranks::rank_at, crate::specs::Ranks::newest_rank))]
 pub fn newest_rank(j: Junction, n: usize) -> u32
     ensures { result ≡ newest_rank j n }
 {

@@ -1,4 +1,6 @@
 // The questions of a junction file, 3 to 9 (document 01, "Questions in order").
+#![tactic(auto)]
+
 ghost use Rattle.std.specs.Prelude.{◌&&◌, ◌≡◌, eqb};
 ghost use Rattle.junction_questions.specs.Questions.{in_order, length_right, in_range, within_limit, car_refers, count_refers, refers as refers_to, body_verdict, first_in_phase, phases_right, first_car, first_lacking, counts_verdict, whole_verdict};
 ghost use Rattle.streams.specs.Kinds.{is_car};
@@ -11,6 +13,7 @@ use streams::Stream;
 
 // Questions 3 to 7 of a field that fits, with its tag, its body and its place: held is what the junction has before it, first and second are
 // the streams that the body's first two bytes name.
+#[tactic(auto, unfolding(crate::specs::Questions::body_verdict))]
 pub fn body_verdict(
     tag: u8,
     b: &[u8],
@@ -33,6 +36,7 @@ pub fn body_verdict(
     ask(in_order(held.last, tag), 3, at, four)
 }
 
+#[tactic(auto, unfolding(crate::specs::Questions::in_order))]
 fn in_order(last: u8, tag: u8) -> bool
     ensures { result ≡ in_order last tag }
 {
@@ -42,6 +46,7 @@ fn in_order(last: u8, tag: u8) -> bool
     (2 <= tag) & (tag <= 4) & (last <= tag)
 }
 
+#[tactic(auto, unfolding(crate::specs::Questions::length_right))]
 fn length_right(tag: u8, b: &[u8]) -> bool
     ensures { result ≡ length_right tag b.now }
 {
@@ -57,6 +62,7 @@ fn length_right(tag: u8, b: &[u8]) -> bool
     b.len() == 8
 }
 
+#[tactic(auto, unfolding(crate::specs::Questions::in_range))]
 fn in_range(tag: u8, b: &[u8]) -> bool
     ensures { result ≡ in_range tag b.now }
 {
@@ -72,6 +78,7 @@ fn in_range(tag: u8, b: &[u8]) -> bool
     junction::count_in_range(b)
 }
 
+#[tactic(auto, unfolding(crate::specs::Questions::within_limit))]
 fn within_limit(tag: u8, held: Held) -> bool
     ensures { result ≡ within_limit tag held }
 {
@@ -87,6 +94,7 @@ fn within_limit(tag: u8, held: Held) -> bool
     held.counts < MOST_COUNTS
 }
 
+#[tactic(auto, unfolding(crate::specs::Questions::refers, crate::specs::Questions::zone_refers))]
 fn refers(tag: u8, streams: usize, b: &[u8], first: Stream, second: Stream) -> bool
     ensures { result ≡ refers_to tag streams b.now first second }
 {
@@ -108,6 +116,7 @@ fn refers(tag: u8, streams: usize, b: &[u8], first: Stream, second: Stream) -> b
 }
 
 // Whether a number of so many streams, that of this one, is that of a car.
+#[tactic(auto, unfolding(crate::specs::Questions::car_refers))]
 fn refers_to_car(streams: usize, n: usize, first: Stream) -> bool
     ensures { result ≡ car_refers streams n first }
 {
@@ -115,6 +124,7 @@ fn refers_to_car(streams: usize, n: usize, first: Stream) -> bool
 }
 
 // Whether a number is that of a car stream.
+#[tactic(auto, unfolding(crate::specs::Questions::count_refers))]
 pub fn count_refers(j: Junction, n: usize) -> bool
     ensures { result ≡ count_refers j n }
 {
@@ -122,6 +132,7 @@ pub fn count_refers(j: Junction, n: usize) -> bool
 }
 
 // Question 8, place the file length, and 9, place the stream's number.
+#[tactic(auto, unfolding(crate::specs::Questions::whole_verdict, crate::specs::Questions::whole))]
 pub fn whole_verdict(size: usize, j: Junction) -> Verdict
     ensures { result ≡ whole_verdict size j }
 {
@@ -131,6 +142,7 @@ pub fn whole_verdict(size: usize, j: Junction) -> Verdict
     ask(whole, 8, size, counts_verdict(j))
 }
 
+#[tactic(auto, unfolding(crate::specs::Questions::counts_verdict))]
 fn counts_verdict(j: Junction) -> Verdict
     ensures { result ≡ counts_verdict j }
 {
@@ -145,6 +157,7 @@ fn counts_verdict(j: Junction) -> Verdict
     }
 }
 
+#[tactic(auto, unfolding(crate::specs::Questions::phases_right, crate::specs::Questions::phase_follows, crate::specs::Questions::phase_used))]
 fn phases_right(n: usize, streams: [Stream; MOST_STREAMS]) -> bool
     ensures { result ≡ phases_right (of_streams n streams) }
 {
@@ -157,6 +170,7 @@ fn phases_right(n: usize, streams: [Stream; MOST_STREAMS]) -> bool
     one & two & (!three | two) & (!four | three) & (!five | four) & (!six | five)
 }
 
+#[tactic(auto, unfolding(crate::specs::Questions::first_in_phase, junction_places::specs::Places::stream_at, crate::specs::Questions::in_phase))]
 fn first_in_phase(n: usize, streams: [Stream; MOST_STREAMS], p: u8) -> usize
     ensures { result ≡ first_in_phase (of_streams n streams) p }
 {
@@ -175,6 +189,7 @@ fn first_in_phase(n: usize, streams: [Stream; MOST_STREAMS], p: u8) -> usize
     i
 }
 
+#[tactic(auto, unfolding(crate::specs::Questions::first_car, junction_places::specs::Places::stream_at, crate::specs::Questions::car_at))]
 fn first_car(n: usize, streams: [Stream; MOST_STREAMS]) -> usize
     ensures { result ≡ first_car (of_streams n streams) }
 {
@@ -194,6 +209,7 @@ fn first_car(n: usize, streams: [Stream; MOST_STREAMS]) -> usize
 }
 
 // The first place of a car without a usable count in the period. A place past the numbers of one byte, which no file has, asks the counts again.
+#[tactic(auto, unfolding(crate::specs::Questions::first_lacking, junction_places::specs::Places::stream_at, crate::specs::Questions::lacks_count, crate::specs::Questions::car_at))]
 fn first_lacking(j: Junction) -> usize
     ensures { result ≡ first_lacking j }
 {

@@ -1,5 +1,7 @@
 // Of a taken junction: the entries of every pair of streams, those at each zone, and flow and S of each stream, worked out once, since the
 // search asks for them at every length.
+#![tactic(auto)]
+
 ghost use Rattle.std.specs.Prelude.{◌≡◌, length};
 ghost use Rattle.laws.specs.Ranges.{Between};
 ghost use Rattle.limits.specs.Limits.{most_streams};
@@ -17,7 +19,7 @@ use streams::Stream;
 const PAIRS: usize = MOST_STREAMS * MOST_STREAMS;
 
 // A conflict zone: the numbers of its streams, and the entries of the pair in seconds, atob from a to b and btoa from b to a.
-#[derive(Drop)]
+#[derive(Clone, Copy)]
 pub struct Conflict {
     pub a: u8,
     pub b: u8,
@@ -26,20 +28,20 @@ pub struct Conflict {
 }
 
 // The conflict zones in their order; the places after the last are empty.
-#[derive(Drop)]
+#[derive(Clone, Copy)]
 pub struct Conflicts {
     pub of: [Conflict; MOST_ZONES],
 }
 
 // The flow of a stream and its saturation flow in E/h, 0 and 0 for a stream that is no car.
-#[derive(Drop)]
+#[derive(Clone, Copy)]
 pub struct Load {
     pub flow: u16,
     pub saturation: u32,
 }
 
 // Those of the streams in their order; the places after the last are empty.
-#[derive(Drop)]
+#[derive(Clone, Copy)]
 pub struct Loads {
     pub of: [Load; MOST_STREAMS],
 }
@@ -114,6 +116,7 @@ fn conflict_by(entries: &[u16], a: u8, b: u8) -> Conflict
 }
 
 // The conflicts of a junction: at each zone the entries of its pair.
+#[tactic(auto, unfolding(crate::specs::Tables::conflicts_of))]
 pub fn conflicts_of(j: Junction) -> Conflicts
     requires { Taken j }
     ensures { result ≡ conflicts_of j }
@@ -150,6 +153,7 @@ fn load_by(rank: u32, s: Stream) -> Load
 }
 
 // The loads of a junction.
+#[tactic(auto, unfolding(junction_figures::specs::Figures::stream_flow, junction_figures::specs::Figures::stream_saturation, junction_figures::specs::Figures::stream_ratio, crate::specs::Tables::loads_of))]
 pub fn loads_of(j: Junction) -> Loads
     requires { Taken j }
     ensures { result ≡ loads_of j }

@@ -1,10 +1,8 @@
 -- A number for each of the numbers 1 to some size, as a list: a figure of one of them raises its place alone, so one pass finds the largest
 -- figure of every one.
-use Rattle.std.specs.Prelude.{ℕ, ◌+◌, ◌-◌, ◌<◌, max, cond, List, ◌≡◌, eqb, length, get_or, set, replicate}
-use Rattle.std.proofs.Common.{arith, sym, ◌∙◌, length-set, eqb-true, eq-eqb, ne_eqb}
-use Rattle.std.proofs.lemmas.List.{length-replicate, get_or-replicate}
+use Rattle.std.specs.Prelude.{ℕ, ◌+◌, ◌-◌, ◌<◌, max, cond, List, ◌≡◌, eqb, length, get_or, set}
+use Rattle.std.proofs.Common.{arith, ◌∙◌, length-set, eqb-true, eq-eqb, ne_eqb}
 use Rattle.std.proofs.lemmas.Bool.{eqb-false}
-use Rattle.laws.specs.Largest.{largest_of, largest_none, largest_next}
 use Rattle.laws.specs.Raised.{raised_at}
 use Rattle.laws.specs.Ranges.{Between}
 use Rattle.laws.specs.Tests.{by_test}
@@ -30,13 +28,3 @@ module _ {size : ℕ} where
             (λ q. rw q (ne_eqb (p - 1) i (λ s. eqb-false p (i + 1) q (omega arith)))) in
             rw (e, ← before.each i low, ← own) (raised_at l (p - 1) i x (rw before.long (omega arith)));
       }
-
-  -- the largest figures of none, and of one more
-  module _ (figure : ℕ → ℕ → ℕ) where
-    pub by_number_none : ByNumber size (λ f. largest_of (figure f) 0) (replicate size 0)
-    by_number_none =
-        record { long = length-replicate {A = ℕ} size 0; each = λ i low. get_or-replicate {A = ℕ} size i 0 0 low ∙ sym (largest_none _) }
-
-    pub by_number_next : (k : ℕ) (l : List ℕ) → ByNumber size (λ f. max (largest_of (figure f) k) (figure f k)) l
-        → ByNumber size (λ f. largest_of (figure f) (k + 1)) l
-    by_number_next k l by = by_number_same _ _ l by (λ f. sym (largest_next (figure f) k))

@@ -1,4 +1,6 @@
 // Arithmetic on whole numbers that Rattle has no operator for.
+#![tactic(auto)]
+
 ghost use Rattle.std.specs.Prelude.{◌≡◌, ◌-◌, max};
 ghost use Rattle.laws.specs.Rounding.{up};
 

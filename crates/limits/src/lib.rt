@@ -1,4 +1,5 @@
 // The limits of junctions and plans (document 01, "The junction file" and "Judging a plan"; document 02), as specs/Limits.antt has them.
+#![tactic(auto)]
 
 // A junction file has at most so many bytes, streams, zones and counts.
 pub const MOST_BYTES: usize = 16384;

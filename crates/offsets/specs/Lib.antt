@@ -1,4 +1,3 @@
-pub mod FileDays
 pub mod Long
 pub mod Refused
 pub mod SameJudgement

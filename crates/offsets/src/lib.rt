@@ -1,4 +1,6 @@
 // Adds one offset to every start of a plan file, modulo the cycle, in the lent file itself (document 02, 2026-06).
+#![tactic(auto)]
+
 ghost use Rattle.std.specs.Prelude.{◌≡◌, ◌+◌, ◌≤◌, ◌<◌, length};
 ghost use Rattle.limits.specs.Limits.{most_streams};
 ghost use Rattle.fields.specs.Bytes.{number_at};
@@ -10,6 +12,7 @@ use fields::{Verdict, ask};
 // The answer to every two sequences of bytes and every offset: `Passed`, and in the lent plan file every start is (start + offset) modulo
 // the cycle, and every other byte as it was; or the first refusal with its number and place, and no byte is altered. The junction's
 // questions 1 to 9 come first, then the plan's 11 to 13; then 24, place 0: is the offset below the cycle? The judge's rules are not asked.
+#[tactic(auto, unfolding(crate::specs::Shifting::shift_verdict, crate::specs::Shifting::shifted_plan, crate::specs::Shifting::file_shifted))]
 pub fn shift(junction: &[u8], plan: &mut [u8], offset: usize) -> Verdict
     ensures result { result ≡ shift_verdict junction.now plan.old offset }
     ensures lent { plan.new ≡ shifted_plan junction.now plan.old offset }
@@ -23,6 +26,7 @@ pub fn shift(junction: &[u8], plan: &mut [u8], offset: usize) -> Verdict
 }
 
 // The same with the plan file of a junction that is taken, which has so many streams.
+#[tactic(auto, unfolding(crate::specs::Shifting::file_shifted))]
 fn shift_file(plan: &mut [u8], streams: usize, offset: usize) -> Verdict
     requires { streams ≤ most_streams }
     ensures result { result ≡ file_verdict plan.old streams offset }
@@ -36,6 +40,7 @@ fn shift_file(plan: &mut [u8], streams: usize, offset: usize) -> Verdict
     verdict
 }
 
+#[tactic(auto, unfolding(crate::specs::Shifting::file_verdict))]
 fn file_verdict(plan: &[u8], streams: usize, offset: usize) -> Verdict
     ensures { result ≡ file_verdict plan.now streams offset }
 {
@@ -46,6 +51,7 @@ fn file_verdict(plan: &[u8], streams: usize, offset: usize) -> Verdict
     )
 }
 
+#[tactic(auto, unfolding(crate::specs::Shifting::start_place))]
 fn shift_starts(plan: &mut [u8], streams: usize, offset: usize)
     requires formed { WellFormed plan.old streams }
     requires few { streams ≤ most_streams }
@@ -61,6 +67,7 @@ fn shift_starts(plan: &mut [u8], streams: usize, offset: usize)
 }
 
 // Where the start of stream i + 1 stands, after its field's tag, body length and stream.
+#[tactic(auto, unfolding(plan_file::specs::Writing::plan_size, crate::specs::Shifting::start_place))]
 fn start_place(i: usize) -> usize
     requires { i ≤ most_streams }
     ensures { result ≡ start_place i }
@@ -69,6 +76,7 @@ fn start_place(i: usize) -> usize
 }
 
 // Stores the two bytes of a start, and no other.
+#[tactic(auto, unfolding(crate::specs::Shifting::with_number))]
 fn shift_start(plan: &mut [u8], at: usize, cycle: u16, offset: usize)
     requires within { at + 1 < length plan.old }
     requires in_cycle { number_at plan.old at < cycle }
@@ -81,6 +89,7 @@ fn shift_start(plan: &mut [u8], at: usize, cycle: u16, offset: usize)
 }
 
 // The sum is below twice the cycle, and need not fit one byte.
+#[tactic(auto, unfolding(crate::specs::Shifting::moved))]
 fn moved(cycle: u16, offset: usize, start: u16) -> u16
     requires below { offset < cycle }
     requires in_cycle { start < cycle }

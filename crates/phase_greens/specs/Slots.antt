@@ -2,7 +2,8 @@
 use Rattle.std.specs.Prelude.{ℕ, ◌≤◌, ◌<◌, ◌≡◌, ltb, get_or, replicate}
 use Rattle.std.proofs.Common.{le_refl, arith}
 use Rattle.laws.specs.Filled.{filled, filled_at}
-use Rattle.laws.specs.Search.{first_below, first_same}
+use Rattle.laws.proofs.Search.{first_same}
+use Rattle.laws.specs.Search.{first_below}
 use Rattle.limits.specs.Limits.{most_phases}
 use Rattle.phase_greens.specs.Greens.{green_at, start_at, first_below_one}
 use Rattle.phase_lengths.specs.declared.Phases.{Phases}

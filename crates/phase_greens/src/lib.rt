@@ -1,7 +1,10 @@
 // What a length of the cycle gives each phase: effective green, green and start (document 01, "Working out a plan").
+#![tactic(auto)]
+
 ghost use Rattle.std.specs.Prelude.{cond, ◌≡◌, ◌-◌, ◌≤◌};
 ghost use Rattle.limits.specs.Limits.{most_phases};
-ghost use Rattle.phase_greens.specs.Greens.{share as share_of, shares as shares_in, sharing as sharing_of, extra as extra_of, green_by, gives_greens};
+ghost use Rattle.phase_greens.specs.Greens.{share as share_of, shares as shares_in, sharing as sharing_of, extra as extra_of, green_by};
+ghost use Rattle.phase_greens.specs.Greens.{gives_greens};
 ghost use Rattle.phase_greens.specs.Slots.{no_slot, slots_of, first_below_one_in};
 
 use laws::above;
@@ -10,7 +13,7 @@ use phase_lengths::{Phase, Phases};
 
 // What is shared out at a length of the cycle: the seconds of effective green, over the sum of the flow ratios, and the seconds that are
 // left over after rounding down.
-#[derive(Drop)]
+#[derive(Clone, Copy)]
 pub struct Sharing {
     pub seconds: u16,
     pub ratios: u64,
@@ -18,19 +21,20 @@ pub struct Sharing {
 }
 
 // A phase's start and its green, in seconds.
-#[derive(Drop)]
+#[derive(Clone, Copy)]
 pub struct Slot {
     pub start: u64,
     pub green: u64,
 }
 
 // Those of six places; of an empty place the green is 0.
-#[derive(Drop)]
+#[derive(Clone, Copy)]
 pub struct Slots {
     pub of: [Slot; MOST_PHASES],
 }
 
 // (34): a phase's part of the seconds by its flow ratio, rounded down; 0 where the sum of ratios is 0.
+#[tactic(auto, unfolding(crate::specs::Greens::share))]
 fn share(ratio: u32, seconds: u16, ratios: u64) -> u64
     ensures value { result ≡ share_of ratio seconds ratios }
     ensures small { result ≤ 281474976710656 }
@@ -42,6 +46,7 @@ fn share(ratio: u32, seconds: u16, ratios: u64) -> u64
 }
 
 // The sum of the phases' parts.
+#[tactic(auto, unfolding(phase_lengths::specs::Phases::phase, crate::specs::Greens::shares))]
 fn shares(q: Phases, seconds: u16, ratios: u64) -> u64
     ensures { result ≡ shares_in q seconds ratios }
 {
@@ -63,6 +68,7 @@ fn spare(t: u16, lost: u64) -> u16
 }
 
 // What is shared out at a length.
+#[tactic(auto, unfolding(crate::specs::Greens::sharing))]
 pub fn shared_out(q: Phases, t: u16) -> Sharing
     ensures { result ≡ sharing_of q t }
 {
@@ -86,6 +92,7 @@ fn one(cars: bool) -> u64
 }
 
 // One second more for a phase with fewer phases with cars before it than there are seconds left over.
+#[tactic(auto, unfolding(crate::specs::Greens::extra))]
 fn extra(before: u64, left: u64) -> u64
     ensures value { result ≡ extra_of before left }
     ensures small { result ≤ 1 }
@@ -114,6 +121,7 @@ fn no_slot() -> Slot
 }
 
 // Start and green of each place: phase 1 starts at 0, each next after the greens and intergreens of those before it.
+#[tactic(auto, unfolding(crate::specs::Slots::slots_of))]
 pub fn slots_of(q: Phases, s: Sharing) -> Slots
     ensures { result ≡ slots_of q s }
 {
@@ -135,6 +143,7 @@ pub fn slots_of(q: Phases, s: Sharing) -> Slots
 }
 
 // The first of the first places whose green is below 1; their number where none is.
+#[tactic(auto, unfolding(crate::specs::Slots::first_below_one_in))]
 fn first_below_one(slots: Slots, n: usize) -> usize
     requires { n ≤ most_phases }
     ensures { result ≡ first_below_one_in slots n }
@@ -151,6 +160,7 @@ fn first_below_one(slots: Slots, n: usize) -> usize
 }
 
 // Whether a length is at least its lost time and gives every phase a green of 1 or more.
+#[tactic(auto, unfolding(crate::specs::Greens::gives_greens))]
 pub fn gives_greens(q: Phases, slots: Slots, t: u16) -> bool
     requires count { q.count ≤ most_phases }
     requires slots { slots ≡ slots_of q (sharing_of q t) }

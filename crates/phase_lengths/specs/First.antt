@@ -4,7 +4,7 @@ use Rattle.std.proofs.Common.{le_trans, mul-le-mul, mul-le-mul_right, arith, sym
 use Rattle.std.proofs.lemmas.Bool.{false≢true}
 use borrow.Author.Tests.{leb-true, leb-false, le-leb}
 use Rattle.laws.specs.Ranges.{Between}
-use Rattle.laws.specs.Search.{first_range, first_passes, first_fails}
+use Rattle.laws.proofs.Search.{first_range, first_passes, first_fails}
 use Rattle.laws.specs.Tests.{by_test}
 use Rattle.limits.specs.Limits.{no_cycle, most_seconds}
 use Rattle.phase_lengths.specs.Phases.{long_enough, first_length}

@@ -1,5 +1,7 @@
 // The phases of a junction as numbers: lost time, the sum of flow ratios, and the first length of the cycle (document 01, "Working out a
 // plan").
+#![tactic(auto)]
+
 ghost use Rattle.std.specs.Prelude.{◌≡◌, ◌+◌, ◌*◌, ◌≤◌, leb};
 ghost use Rattle.phase_lengths.specs.Phases.{no_phase, phase, lost as lost_of, sums_of, long_enough, first_length};
 
@@ -8,7 +10,7 @@ use limits::{MOST_PHASES, NO_CYCLE};
 
 // A phase: whether it has cars, the largest flow ratio of these in ten-thousandths, M toward the next phase, and the largest needed green of
 // its streams.
-#[derive(Drop)]
+#[derive(Clone, Copy)]
 pub struct Phase {
     pub cars: bool,
     pub ratio: u32,
@@ -17,14 +19,14 @@ pub struct Phase {
 }
 
 // The phases in their order; the places after the last are empty.
-#[derive(Drop)]
+#[derive(Clone, Copy)]
 pub struct Phases {
     pub count: usize,
     pub of: [Phase; MOST_PHASES],
 }
 
 // The sums over a junction's phases: Y, of the flow ratios, and L, of the time lost to each (31).
-#[derive(Drop)]
+#[derive(Clone, Copy)]
 pub struct Sums {
     pub ratios: u64,
     pub lost: u64,
@@ -43,6 +45,7 @@ pub fn no_phase() -> Phase
 }
 
 // The phase at a place, from 0; an empty place past the sixth.
+#[tactic(auto, unfolding(crate::specs::Phases::phase))]
 pub fn phase_at(q: Phases, i: usize) -> Phase
     ensures { result ≡ phase q i }
 {
@@ -53,6 +56,7 @@ pub fn phase_at(q: Phases, i: usize) -> Phase
 }
 
 // The time lost to a phase: M - 1 with cars (30), need + M without.
+#[tactic(auto, unfolding(crate::specs::Phases::lost))]
 fn lost(p: Phase) -> u64
     ensures value { result ≡ lost_of p }
     ensures small { result ≤ 8589934592 }
@@ -64,6 +68,7 @@ fn lost(p: Phase) -> u64
 }
 
 // Y and L by one pass over the phases.
+#[tactic(auto, unfolding(crate::specs::Phases::phase, crate::specs::Phases::ratio_sum, crate::specs::Phases::lost_time))]
 pub fn sums_of(q: Phases) -> Sums
     ensures { result ≡ sums_of q }
 {
@@ -94,6 +99,7 @@ fn by_32(lost: u64, product: u64) -> bool
 }
 
 // Whether a length is at least the optimum: by (33) where there are pedestrians or trams, else by (32).
+#[tactic(auto, unfolding(crate::specs::Phases::long_enough))]
 fn long_enough(mixed: bool, ratios: u64, lost: u64, t: u16) -> bool
     ensures { result ≡ long_enough mixed ratios lost t }
 {
@@ -105,6 +111,7 @@ fn long_enough(mixed: bool, ratios: u64, lost: u64, t: u16) -> bool
 }
 
 // T0, the least length, from 1 on, that is long enough; 181 where none up to 180 is.
+#[tactic(auto, unfolding(crate::specs::Phases::first_length))]
 pub fn first_length(mixed: bool, ratios: u64, lost: u64) -> u16
     ensures { result ≡ first_length mixed ratios lost }
 {

@@ -1,4 +1,3 @@
-pub mod Inverse
 pub mod Plans
 pub mod WellFormed
 pub mod Writing

@@ -1,5 +1,4 @@
 pub mod Bytes
 pub mod Left
 pub mod Long
-pub mod Numbers
 pub mod Passed

@@ -1,8 +1,11 @@
 // Plan files: read whole, or refused by document 01's questions 11 to 13; and written.
+#![tactic(auto)]
+
 ghost use Rattle.std.specs.Prelude.{◌≡◌, ◌/◌, ◌%◌, ◌≤◌, ◌<◌, length};
 ghost use Rattle.laws.specs.Filled.{filled};
 ghost use Rattle.limits.specs.Limits.{most_streams};
-ghost use Rattle.plan_file.specs.Plans.{no_green, no_plan, green_of, green_at, plan_of, due_verdict, cycle_in_range, cycle_expected, cycle_verdict, green_expected, green_in_range, green_verdict, greens_from, plan_verdict};
+ghost use Rattle.plan_file.specs.Plans.{no_green, no_plan, green_of, green_at, plan_of, due_verdict, cycle_in_range, cycle_expected};
+ghost use Rattle.plan_file.specs.Plans.{cycle_verdict, green_expected, green_in_range, green_verdict, greens_from, plan_verdict};
 ghost use Rattle.plan_file.specs.Writing.{plan_size, has_room, written};
 ghost use Rattle.plan_file.specs.lemmas.Bytes.{cycle_byte, green_byte, plan_byte};
 
@@ -10,20 +13,21 @@ use fields::{Verdict, ask};
 use limits::{MOST_SECONDS, MOST_STREAMS};
 
 // A stream's green: where in the cycle it begins, and how long it lasts, in seconds.
-#[derive(Drop)]
+#[derive(Clone, Copy)]
 pub struct Green {
     pub start: u16,
     pub length: u16,
 }
 
 // The cycle in seconds, and the green of each stream.
-#[derive(Drop)]
+#[derive(Clone, Copy)]
 pub struct Plan {
     pub cycle: u16,
     pub greens: [Green; MOST_STREAMS],
 }
 
 // The verdict on a plan file for a junction with this many streams: no refusal, or the first of questions 11 to 13, field by field.
+#[tactic(auto, unfolding(crate::specs::Plans::plan_verdict))]
 pub fn verdict(file: &[u8], streams: usize) -> Verdict
     ensures { result ≡ plan_verdict file.now streams }
 {
@@ -52,6 +56,7 @@ fn greens_verdict(file: &[u8], from: usize, streams: usize) -> Verdict
     ask(file.len() <= at, 12, at, Verdict::Passed)
 }
 
+#[tactic(auto, unfolding(crate::specs::Plans::cycle_verdict))]
 fn cycle_verdict(file: &[u8]) -> Verdict
     ensures { result ≡ cycle_verdict file.now }
 {
@@ -70,6 +75,7 @@ pub fn cycle_in_range(cycle: u16) -> bool
     (1 <= cycle) & (cycle <= MOST_SECONDS)
 }
 
+#[tactic(auto, unfolding(crate::specs::Plans::green_verdict))]
 fn green_verdict(file: &[u8], at: usize, n: usize) -> Verdict
     requires { at ≤ length file.now }
     ensures { result ≡ green_verdict file.now at n }
@@ -82,6 +88,7 @@ fn green_verdict(file: &[u8], at: usize, n: usize) -> Verdict
     )
 }
 
+#[tactic(auto, unfolding(crate::specs::Plans::due_verdict))]
 fn due_verdict(file: &[u8], at: usize, expected: bool, in_range: bool) -> Verdict
     requires { at ≤ length file.now }
     ensures { result ≡ due_verdict file.now at expected in_range }
@@ -92,12 +99,14 @@ fn due_verdict(file: &[u8], at: usize, expected: bool, in_range: bool) -> Verdic
     ask(at < file.len(), 12, file.len(), eleven)
 }
 
+#[tactic(auto, unfolding(crate::specs::Plans::cycle_expected))]
 fn cycle_expected(file: &[u8]) -> bool
     ensures { result ≡ cycle_expected file.now }
 {
     (fields::byte(file, 0) == 0x11) & (fields::number(file, 1) == 2)
 }
 
+#[tactic(auto, unfolding(crate::specs::Plans::green_expected))]
 fn green_expected(file: &[u8], at: usize, n: usize) -> bool
     requires { at ≤ length file.now }
     ensures { result ≡ green_expected file.now at n }
@@ -107,6 +116,7 @@ fn green_expected(file: &[u8], at: usize, n: usize) -> bool
         & (fields::byte(file, at + 3) as usize == n)
 }
 
+#[tactic(auto, unfolding(crate::specs::Plans::green_in_range))]
 fn green_in_range(file: &[u8], at: usize) -> bool
     requires { at ≤ length file.now }
     ensures { result ≡ green_in_range file.now at }
@@ -117,6 +127,7 @@ fn green_in_range(file: &[u8], at: usize) -> bool
 }
 
 // The plan that a file says, to be used only where nothing is refused.
+#[tactic(auto, unfolding(crate::specs::Plans::plan_of))]
 pub fn plan_of(file: &[u8]) -> Plan
     ensures { result ≡ plan_of file.now }
 {
@@ -132,6 +143,7 @@ pub fn plan_of(file: &[u8]) -> Plan
     plan
 }
 
+#[tactic(auto, unfolding(crate::specs::Plans::green_at))]
 fn green_at(file: &[u8], i: usize) -> Green
     requires { i ≤ most_streams }
     ensures { result ≡ green_at file.now i }
@@ -144,6 +156,7 @@ fn green_at(file: &[u8], i: usize) -> Green
 }
 
 // The green of the stream with a number, from 1; an empty one where no place has the number.
+#[tactic(auto, unfolding(crate::specs::Plans::green_of))]
 pub fn green_of(p: Plan, n: usize) -> Green
     ensures { result ≡ green_of p n }
 {
@@ -179,6 +192,7 @@ pub fn no_plan() -> Plan
 
 // Writes the plan file for a junction with this many streams, at most 16, from the buffer's first byte on; later bytes are untouched.
 // Where the buffer has no room for it, no byte is altered.
+#[tactic(auto, unfolding(crate::specs::Writing::plan_size, crate::specs::Writing::written))]
 pub fn write(p: Plan, streams: usize, out: &mut [u8])
     ensures { out.new ≡ written p streams out.old }
 {
@@ -200,6 +214,7 @@ fn write_bytes(p: Plan, size: usize, out: &mut [u8])
 }
 
 // Whether a buffer of this size holds the plan file of so many streams, at most 16.
+#[tactic(auto, unfolding(crate::specs::Writing::has_room))]
 pub fn has_room(streams: usize, size: usize) -> bool
     ensures { result ≡ has_room streams size }
 {
@@ -210,6 +225,7 @@ pub fn has_room(streams: usize, size: usize) -> bool
 }
 
 // How long the plan file of so many streams is.
+#[tactic(auto, unfolding(crate::specs::Writing::plan_size))]
 pub fn plan_size(streams: usize) -> usize
     requires { streams ≤ most_streams }
     ensures { result ≡ plan_size streams }
@@ -218,6 +234,7 @@ pub fn plan_size(streams: usize) -> usize
 }
 
 // The byte at a place of the plan file: field 11 has 5 bytes, and each field 12 has 8.
+#[tactic(auto, unfolding(crate::specs::lemmas::Bytes::plan_byte, crate::specs::Writing::plan_size))]
 fn plan_byte(p: Plan, k: usize) -> u8
     requires { k < plan_size most_streams }
     ensures { result ≡ plan_byte p k }
@@ -229,6 +246,7 @@ fn plan_byte(p: Plan, k: usize) -> u8
     green_byte(green_of(p, n), n, (k - 5) % 8)
 }
 
+#[tactic(auto, unfolding(crate::specs::lemmas::Bytes::cycle_byte, crate::specs::Writing::cycle_field))]
 fn cycle_byte(cycle: u16, k: usize) -> u8
     requires { k < 5 }
     ensures { result ≡ cycle_byte cycle k }
@@ -248,6 +266,7 @@ fn cycle_byte(cycle: u16, k: usize) -> u8
     low(cycle)
 }
 
+#[tactic(auto, unfolding(crate::specs::lemmas::Bytes::green_byte, crate::specs::Writing::green_field))]
 fn green_byte(g: Green, n: usize, k: usize) -> u8
     requires stream { n ≤ most_streams }
     requires place { k < 8 }

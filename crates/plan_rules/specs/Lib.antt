@@ -1,3 +1,2 @@
-pub mod Off
 pub mod Rules
 pub mod lemmas

@@ -1,4 +1,6 @@
 // The rules that a plan has to meet: needed green, capacity, and clear conflict zones (document 01, "Judging a plan").
+#![tactic(auto)]
+
 ghost use Rattle.std.specs.Prelude.{◌≡◌, ◌+◌, ◌≤◌, ◌<◌};
 ghost use Rattle.limits.specs.Limits.{most_zones};
 ghost use Rattle.fields.specs.Verdict.{first_failing};
@@ -15,6 +17,7 @@ use streams::Stream;
 
 // The verdict on a plan for a junction: no refusal, or 15 or 16 with the lowest stream, or 17 with the lowest zone, that breaks the rule.
 // Each rule is asked of all streams or zones before the next.
+#[tactic(auto, unfolding(crate::specs::Rules::rules_verdict, fields::specs::Verdict::ask_each))]
 pub fn verdict(j: Junction, p: Plan) -> Verdict
     requires { Taken j }
     ensures { result ≡ rules_verdict j p }
@@ -48,6 +51,7 @@ fn broken(rule: u8, place: usize) -> Verdict
 }
 
 // The first place of a stream without its needed green; the number of streams where each has it.
+#[tactic(auto, unfolding(fields::specs::Verdict::first_failing))]
 fn first_need_unmet(j: Junction, p: Plan) -> usize
     requires { Taken j }
     ensures { result ≡ first_failing (need_met j p) j.held.streams }
@@ -64,6 +68,7 @@ fn first_need_unmet(j: Junction, p: Plan) -> usize
 }
 
 // The first place of a car stream without its capacity; the number of streams where each has it.
+#[tactic(auto, unfolding(fields::specs::Verdict::first_failing))]
 fn first_capacity_unmet(j: Junction, loads: Loads, p: Plan) -> usize
     requires taken { Taken j }
     requires loads { loads ≡ loads_of j }
@@ -81,6 +86,7 @@ fn first_capacity_unmet(j: Junction, loads: Loads, p: Plan) -> usize
 }
 
 // The first place of a zone whose streams' greens do not keep their entries apart; the number of zones where none is.
+#[tactic(auto, unfolding(fields::specs::Verdict::first_failing))]
 fn first_zone_unmet(j: Junction, conflicts: Conflicts, p: Plan) -> usize
     requires taken { Taken j }
     requires conflicts { conflicts ≡ conflicts_of j }
@@ -114,6 +120,7 @@ pub fn capacity_met(s: Stream, load: Load, green: Green, cycle: u16) -> bool
 }
 
 // Whether a green of this length in each cycle serves a flow: flow × cycle at most S × (length + 1).
+#[tactic(auto, unfolding(crate::specs::Rules::enough_capacity))]
 pub fn enough_capacity(flow: u16, cycle: u16, saturation: u32, length: u16) -> bool
     ensures { result ≡ enough_capacity flow cycle saturation length }
 {
@@ -122,6 +129,7 @@ pub fn enough_capacity(flow: u16, cycle: u16, saturation: u32, length: u16) -> b
 
 // Whether the greens of a zone's two streams keep its entries apart: from the end of a to the start of b, and from the end of b to a's next
 // start.
+#[tactic(auto, unfolding(crate::specs::Rules::zone_clear))]
 pub fn zone_clear(cycle: u16, a: Green, b: Green, c: Conflict) -> bool
     ensures { result ≡ zone_clear cycle a b c.atob c.btoa }
 {
@@ -131,6 +139,7 @@ pub fn zone_clear(cycle: u16, a: Green, b: Green, c: Conflict) -> bool
 }
 
 // How long after a start of the one stream the other's next start comes: (to - from) modulo the cycle, for starts below it.
+#[tactic(auto, unfolding(crate::specs::Rules::off))]
 fn off(cycle: u16, from: u16, to: u16) -> u64
     ensures value { result ≡ off_of cycle from to }
     ensures small { result ≤ 131070 }

@@ -1,30 +1,32 @@
 // What the programs `plan`, `shift` and `portable` tell: a plan, or a refusal.
+#![tactic(auto)]
+
 use console::put;
 use limits::MOST_STREAMS;
 use plan_file::{Green, Plan};
 
 // Writes a plan file where argument i names a new file, then prints the plan: the cycle, and each stream's number, start and length.
-pub fn tell_plan(program: &[u8], i: usize, plan: &[u8]) {
-    if kept(program, i, plan) {
+pub fn tell_plan(rt: &HostRuntime, program: &[u8], i: usize, plan: &[u8]) {
+    if kept(rt, program, i, plan) {
         let mut text = [0u8; 512];
         let n = put_plan(plan, &mut text);
-        console::write_text(program, &text, n);
+        console::write_text(rt, program, &text, n);
     }
 }
 
 // Prints a refusal.
-pub fn tell_refusal(program: &[u8], number: u8, place: usize) {
+pub fn tell_refusal(rt: &HostRuntime, program: &[u8], number: u8, place: usize) {
     let mut text = [0u8; 64];
     let n = console::put_refusal(&mut text, 0, number, place);
-    console::write_text(program, &text, n);
+    console::write_text(rt, program, &text, n);
 }
 
 // Whether the file stands where one is named.
-fn kept(program: &[u8], i: usize, plan: &[u8]) -> bool {
-    if os::arg_count() <= i {
+fn kept(rt: &HostRuntime, program: &[u8], i: usize, plan: &[u8]) -> bool {
+    if !console::has_argument(rt, i) {
         return true;
     }
-    console::write_new(program, i, plan)
+    console::write_new(rt, program, i, plan)
 }
 
 fn put_plan(plan: &[u8], out: &mut [u8]) -> usize {

@@ -3,9 +3,9 @@
 use Prim.Native.Nat.{ℕ, zero, suc, ◌+◌, ◌-◌, ◌≤◌, ◌<◌, min}
 use Rattle.std.proofs.Math.Nat.{min-eq_left}
 use native.Mathlib.Omega.{arith}
-use Rattle.std.specs.Prelude.{Bool, false, cond, List, ◌≡◌}
+use Rattle.std.specs.Prelude.{Bool, false, cond, ◌≡◌}
 use Rattle.std.proofs.Math.Dec.{leb}
-use Rattle.laws.specs.Search.{first_fails}
+use Rattle.laws.proofs.Search.{first_fails}
 use Rattle.laws.specs.Sums.{sum_of}
 use Rattle.laws.specs.Tests.{by_test}
 use Rattle.limits.specs.Limits.{no_cycle, most_seconds}
@@ -13,8 +13,6 @@ use Rattle.junction.specs.declared.Junction.{Junction}
 use Rattle.phase_lengths.specs.Phases.{lost_time}
 use Rattle.junction_phases.specs.JunctionPhases.{phases_at}
 use Rattle.cycle_search.specs.Planning.{first_tried, works, cycle_from, cycle, found}
-use Rattle.junction_file.specs.FileDays.{OnlyFileDays, file_days_without_effect}
-use Rattle.planner.specs.WorkingOut.{worked, buffer}
 
 module _ (j : Junction) where
   -- no length from T0 on that is shorter than the cycle works
@@ -43,8 +41,3 @@ module _ (j : Junction) where
   tried_bounds low =
       let exact : (found j (first_tried j)).tried ≡ cycle j + 1 - first_tried j = tried_exact low in
       rw exact (omega arith, unfold lengths_from_lost in at_most_all (λ i. leb (lost_time (phases_at j (first_tried j + i))) (first_tried j + i)) _)
-
--- a plan that is worked out does not depend on file days
-pub file_days_unplanned : (s t : List ℕ) → OnlyFileDays s t → ((size : ℕ) → worked s size ≡ worked t size) × ((lent : List ℕ) → buffer s lent ≡ buffer t lent)
-unfolding worked buffer
-file_days_unplanned s t only = let same = file_days_without_effect s t only in (λ size. rw same, λ lent. rw same)

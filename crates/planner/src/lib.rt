@@ -1,4 +1,6 @@
 // Works out a plan for a junction file, and writes it (document 01, "Working out a plan").
+#![tactic(auto)]
+
 ghost use Rattle.std.specs.Prelude.{◌≡◌, length};
 ghost use Rattle.junction_file.specs.Taken.{Taken};
 ghost use Rattle.planner.specs.WorkingOut.{searched, refusal as refusal_of, junction_worked, junction_buffer, worked, buffer as buffer_after};
@@ -9,7 +11,7 @@ use limits::NO_CYCLE;
 
 // What was worked out: `Passed` with the cycle in seconds, how many lengths were tried and how many bytes the plan file has; or a refusal, with
 // 0 for the three.
-#[derive(Drop)]
+#[derive(Clone, Copy)]
 pub struct Worked {
     pub verdict: Verdict,
     pub cycle: u16,
@@ -43,6 +45,7 @@ fn refusal(verdict: Verdict) -> Worked
     }
 }
 
+#[tactic(auto, unfolding(cycle_search::specs::Planning::ratios))]
 fn work_out_junction(j: Junction, out: &mut [u8]) -> Worked
     requires { Taken j }
     ensures result { result ≡ junction_worked j (length out.old) }

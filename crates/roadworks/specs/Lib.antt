@@ -1,6 +1,4 @@
-pub mod Answered
 pub mod Approaches
-pub mod Cycle
 pub mod Large
 pub mod Meaning
 pub mod Refused

@@ -1,5 +1,7 @@
 // Portable signals for road works: one narrowed stretch, one lane for both directions, and an approach at each end (document 02, 2026-07;
 // annex, part B). The steps from the flow ratios on are the planner's, by its own functions, and the rules are the judge's.
+#![tactic(auto)]
+
 ghost use Rattle.std.specs.Prelude.{true, ◌≡◌, ◌≤◌};
 ghost use Rattle.limits.specs.Limits.{most_seconds, no_cycle};
 ghost use Rattle.stretches.specs.Table.{listed};
@@ -21,7 +23,7 @@ use stretches::TableTimes;
 
 // An approach: its flow and its saturation flow in E/h, and the available waiting length in metres.
 #[repr(C)]
-#[derive(Drop)]
+#[derive(Clone, Copy)]
 pub struct Approach {
     pub flow: usize,
     pub saturation: usize,
@@ -29,14 +31,14 @@ pub struct Approach {
 }
 
 // The green of each approach.
-#[derive(Drop)]
+#[derive(Clone, Copy)]
 pub struct Greens {
     pub first: Green,
     pub second: Green,
 }
 
 // The table's t and L, the cycle in seconds, and the greens.
-#[derive(Drop)]
+#[derive(Clone, Copy)]
 pub struct Timing {
     pub table: TableTimes,
     pub cycle: u16,
@@ -44,14 +46,14 @@ pub struct Timing {
 }
 
 // A refusal, or the signals.
-#[derive(Drop)]
+#[derive(Clone, Copy)]
 pub enum Portable {
     Refused { number: u8, place: usize },
     Timed(Timing),
 }
 
 // What the approaches ask of a plan: M for both directions, and each one's flow and saturation flow.
-#[derive(Drop)]
+#[derive(Clone, Copy)]
 pub struct Asked {
     pub intergreen: u16,
     pub first: Load,
@@ -80,6 +82,7 @@ fn refused(number: u8) -> Portable
 }
 
 // 26 for an approach.
+#[tactic(auto, unfolding(crate::specs::Roadworks::in_range))]
 fn in_range(a: Approach) -> bool
     ensures { result ≡ in_range a }
 {
@@ -94,6 +97,7 @@ fn hourly(flow: usize) -> bool
 }
 
 // The answer where 25 and 26 refuse nothing.
+#[tactic(auto, unfolding(crate::specs::Roadworks::cycle_of, crate::specs::Roadworks::first_tried, crate::specs::Roadworks::phases_of, crate::specs::Roadworks::timing))]
 fn timed(stretch: usize, speed: usize, first: Approach, second: Approach) -> Portable
     requires listed { listed stretch speed ≡ true }
     requires first { in_range first ≡ true }
@@ -125,6 +129,7 @@ fn timed(stretch: usize, speed: usize, first: Approach, second: Approach) -> Por
 }
 
 // M: 3 s and the unrounded t, rounded up.
+#[tactic(auto, unfolding(crate::specs::Roadworks::intergreen))]
 fn intergreen(stretch: usize, speed: usize) -> u16
     requires { listed stretch speed ≡ true }
     ensures { result ≡ intergreen_of stretch speed }
@@ -144,6 +149,7 @@ fn load(a: Approach) -> Load
 }
 
 // The phases: each approach alone, and M between them.
+#[tactic(auto, unfolding(crate::specs::Roadworks::phases_of))]
 fn phases_of(asked: Asked) -> Phases
     ensures { result ≡ phases_of asked }
 {
@@ -172,6 +178,7 @@ fn approach_phase(intergreen: u16, load: Load) -> Phase
 }
 
 // The least length from the first on that works; 181 where none up to 180 does.
+#[tactic(auto, unfolding(crate::specs::Roadworks::cycle_from))]
 fn search(asked: Asked, q: Phases, first: u16) -> u16
     requires phases { q ≡ phases_of asked }
     requires right { Right q }
@@ -189,6 +196,7 @@ fn search(asked: Asked, q: Phases, first: u16) -> u16
 }
 
 // Whether a length works: at least the lost time, each green 1 or more, and every rule kept.
+#[tactic(auto, unfolding(crate::specs::Roadworks::works, crate::specs::Roadworks::phases_of))]
 fn works_at(asked: Asked, q: Phases, t: u16) -> bool
     requires phases { q ≡ phases_of asked }
     requires right { Right q }
@@ -218,6 +226,7 @@ fn greens_of(q: Phases, slots: Slots, t: u16) -> Greens
 }
 
 // Needs, capacities and the zone, the stretch itself, which both approaches share, with M as both entries.
+#[tactic(auto, unfolding(crate::specs::Roadworks::rules_kept))]
 fn rules_kept(asked: Asked, greens: Greens, t: u16) -> bool
     ensures { result ≡ rules_kept asked greens t }
 {
@@ -241,6 +250,7 @@ fn served(load: Load, green: Green, t: u16) -> bool
 }
 
 // 27 for an approach: its available waiting length is above the needed one, flow × cycle/600 m. 600 × waiting may not fit, so the product is divided.
+#[tactic(auto, unfolding(crate::specs::Roadworks::enough_waiting))]
 fn enough_waiting(a: Approach, cycle: u16) -> bool
     requires range { in_range a ≡ true }
     ensures { result ≡ enough_waiting a cycle }

@@ -1,5 +1,6 @@
--- Delay and level of service (document 02, 2026-05; annex 4.1, (51) to (56), and the levels of 6.2, with the factor 0.9 in place of term (54)), in f64,
--- rounded at each step as written: `add`, `sub`, `mul` and `div` of lib.Ieee work out the exact result and round it once.
+-- Delay and level of service (document 02, 2026-05; annex 4.1, (51) to (56), and the levels of 6.2, with the factor 0.9 in place of term (54)),
+-- in f64, rounded at each step as written: `add`, `sub`, `mul` and `div` of `Rattle.std.specs.Float.Ieee` work out the exact result and round it
+-- once.
 use Rattle.std.specs.Prelude.{ℕ, ◌+◌, cond, false, pos, Float}
 use Rattle.std.specs.Float.{binary64}
 use Rattle.std.specs.Float.Ieee.{add, sub, mul, div, le, of_int, round}

@@ -1,9 +1,12 @@
 // Delay and level of service of a car stream, in f64, rounded at each step as written (document 02, 2026-05; annex (51) to (56)).
+#![tactic(auto)]
+
 ghost use Rattle.std.specs.Prelude.{◌≡◌};
-ghost use Rattle.service_level.specs.Delays.{figures_of, term_a, term_b, delay_of, without_terms, service_of, delay_level, level_of, letter as letter_of};
+ghost use Rattle.service_level.specs.Delays.{figures_of, term_a, term_b, delay_of, without_terms, service_of, delay_level, level_of};
+ghost use Rattle.service_level.specs.Delays.{letter as letter_of};
 
 // The figures travel together: the green's share g of the cycle, the saturation u, the terms A and B, and the delay d in seconds.
-#[derive(Drop)]
+#[derive(Clone, Copy)]
 pub struct DelayFigures {
     pub g: f64,
     pub u: f64,
@@ -13,14 +16,14 @@ pub struct DelayFigures {
 }
 
 // What is told of a stream: its delay in seconds, or its saturation where that is 1 or more, or that it has no red.
-#[derive(Drop)]
+#[derive(Clone, Copy)]
 pub enum Service {
     Delay(f64),
     Oversaturated(f64),
     NoRed,
 }
 
-#[derive(Drop)]
+#[derive(Clone, Copy)]
 pub enum Level {
     A,
     B,
@@ -32,6 +35,7 @@ pub enum Level {
 
 // The figures of a green of this length in a cycle, both in seconds, of a flow and a saturation flow, both in E/h. Where there is no red, or
 // the saturation is 1 or more, the request asks for no A, B and d, and nothing is divided for them: they are 0.
+#[tactic(auto, unfolding(crate::specs::Delays::figures_of))]
 pub fn figures(length: u16, cycle: u16, flow: u16, s: u32) -> DelayFigures
     ensures { result ≡ figures_of length cycle flow s }
 {
@@ -62,6 +66,7 @@ fn without_terms(g: f64, u: f64) -> DelayFigures
 }
 
 // (52)
+#[tactic(auto, unfolding(crate::specs::Delays::term_a))]
 fn term_a(g: f64, u: f64) -> f64
     ensures { result ≡ term_a g u }
 {
@@ -69,6 +74,7 @@ fn term_a(g: f64, u: f64) -> f64
 }
 
 // (53)
+#[tactic(auto, unfolding(crate::specs::Delays::term_b))]
 fn term_b(u: f64) -> f64
     ensures { result ≡ term_b u }
 {
@@ -76,6 +82,7 @@ fn term_b(u: f64) -> f64
 }
 
 // (51), with the factor 0.9 in place of term (54)
+#[tactic(auto, unfolding(crate::specs::Delays::delay_of))]
 fn delay(cycle: u16, flow: u16, a: f64, b: f64) -> f64
     ensures { result ≡ delay_of cycle flow a b }
 {
@@ -83,6 +90,7 @@ fn delay(cycle: u16, flow: u16, a: f64, b: f64) -> f64
 }
 
 // No red is tested first, then the saturation.
+#[tactic(auto, unfolding(crate::specs::Delays::service_of))]
 pub fn service_of(f: DelayFigures) -> Service
     ensures { result ≡ service_of f }
 {
@@ -96,6 +104,7 @@ pub fn service_of(f: DelayFigures) -> Service
 }
 
 // The level of service: of the unrounded delay; F at a saturation of 1 or more, A without red.
+#[tactic(auto, unfolding(crate::specs::Delays::service_level, crate::specs::Delays::level_of))]
 pub fn level_of(f: DelayFigures) -> Level
     ensures { result ≡ level_of f }
 {
@@ -107,6 +116,7 @@ pub fn level_of(f: DelayFigures) -> Level
     }
 }
 
+#[tactic(auto, unfolding(crate::specs::Delays::delay_level))]
 fn delay_level(d: f64) -> Level
     ensures { result ≡ delay_level d }
 {
@@ -129,6 +139,7 @@ fn delay_level(d: f64) -> Level
 }
 
 // A level's letter, as a byte.
+#[tactic(auto, unfolding(crate::specs::Delays::letter))]
 pub fn letter(l: Level) -> u8
     ensures { result ≡ letter_of l }
 {

@@ -16,17 +16,19 @@
 //
 // The answer follows the line's text up to the colon. A case of another word is answered `not known`. An empty line and a line that begins
 // with `#` are printed as they are.
-ghost use Rattle.std.specs.Prelude.{◌≤◌, length};
+#![tactic(auto)]
+
+ghost use Rattle.std.specs.Prelude.{◌≡◌, ◌≤◌, length};
 
 use case_text::{put, put_number};
 use delays::Delayed;
 use fields::Verdict;
 use junction::Held;
-use libc::STDIN_FILENO;
 use plan_file::Green;
 use planner::Worked;
 use roadworks::{Approach, Portable, Timing};
 use service_level::{Level, Service};
+use std::io::Read;
 
 // What every byte of a lent buffer is before.
 const BEFORE: u8 = 0xa5;
@@ -34,26 +36,56 @@ const BEFORE: u8 = 0xa5;
 // The greatest number that a case gives.
 const MOST_NUMBER: usize = 9999999999999999999;
 
+// The cases have at most so many bytes.
+const ROOM: usize = 1048576;
+
 // What is told of a junction file.
-#[derive(Drop)]
+#[derive(Clone, Copy)]
 struct Report {
     verdict: Verdict,
     held: Held,
 }
 
-fn main() {
-    let mut text = [0; 1048576];
-    let n = io::read_full(STDIN_FILENO, &mut text);
-    answer_lines(&text[0..n]);
+fn main(rt: HostRuntime) {
+    let mut text = room();
+    let n = read_cases(&rt, &mut text);
+    answer_lines(&rt, &text[0..n]);
 }
 
-fn answer_lines(text: &[u8]) {
+// Room for all cases.
+fn room() -> [u8; ROOM]
+    ensures { 1048576 ≡ length result }
+{
+    [0; ROOM]
+}
+
+// Reads standard input as far as the buffer goes, and answers how many bytes are in the buffer.
+fn read_cases(rt: &HostRuntime, text: &mut [u8]) -> usize
+    ensures { result ≤ length text.new }
+{
+    let mut from = rt.stdin();
+    let mut size: usize = 0;
+    while size < text.len() {
+        let n = from.read(&mut text[size..]).unwrap_or(0);
+        if n == 0 {
+            break;
+        }
+        size += n;
+    }
+    size
+}
+
+fn answer_lines(rt: &HostRuntime, text: &[u8]) {
     // Where the last line that gives a junction file begins; the end before there is one.
     let mut junction = text.len();
     let mut at: usize = 0;
     while at < text.len() {
         junction = latest(text, at, junction);
-        answer_line(case_text::line(text, at), case_text::line(text, junction));
+        answer_line(
+            rt,
+            case_text::line(text, at),
+            case_text::line(text, junction),
+        );
         at = case_text::next_line(text, at);
     }
 }
@@ -70,59 +102,59 @@ fn latest(text: &[u8], at: usize, before: usize) -> usize
     before
 }
 
-fn answer_line(line: &[u8], junction: &[u8]) {
+fn answer_line(rt: &HostRuntime, line: &[u8], junction: &[u8]) {
     if case_text::begins(line, b"junction:") {
         return;
     }
     if case_text::is_comment(line) {
-        put(line);
+        put(rt, line);
     } else {
-        put(case_text::head(line));
-        answer(line, junction);
+        put(rt, case_text::head(line));
+        answer(rt, line, junction);
     }
-    put(b"\n");
+    put(rt, b"\n");
 }
 
-fn answer(line: &[u8], junction: &[u8]) {
+fn answer(rt: &HostRuntime, line: &[u8], junction: &[u8]) {
     if case_text::begins(line, b"read ") {
-        return read(line);
+        return read(rt, line);
     }
     if case_text::begins(line, b"judge ")
         | case_text::begins(line, b"delay ")
         | case_text::begins(line, b"shift ")
     {
-        return plan_case(junction, line);
+        return plan_case(rt, junction, line);
     }
     if case_text::begins(line, b"plan ") {
-        return plan(line);
+        return plan(rt, line);
     }
     if case_text::begins(line, b"portable ") {
-        return portable(line);
+        return portable(rt, line);
     }
-    put(b" not known");
+    put(rt, b" not known");
 }
 
 // Prints a refusal, and answers whether there is none.
-fn passed(verdict: Verdict) -> bool {
+fn passed(rt: &HostRuntime, verdict: Verdict) -> bool {
     match verdict {
         Verdict::Passed => true,
         Verdict::Refused { number, place } => {
-            tell_refusal(number, place);
+            tell_refusal(rt, number, place);
             false
         }
     }
 }
 
-fn tell_refusal(number: u8, place: usize) {
-    put(b" refused");
-    put_number(number as usize);
-    put_number(place);
+fn tell_refusal(rt: &HostRuntime, number: u8, place: usize) {
+    put(rt, b" refused");
+    put_number(rt, number as usize);
+    put_number(rt, place);
 }
 
-fn read(line: &[u8]) {
+fn read(rt: &HostRuntime, line: &[u8]) {
     let mut file = case_text::file();
     let size = case_text::fill(line, &mut file);
-    tell_report(read_file(&file[0..size]));
+    tell_report(rt, read_file(&file[0..size]));
 }
 
 fn read_file(file: &[u8]) -> Report {
@@ -132,71 +164,74 @@ fn read_file(file: &[u8]) -> Report {
     Report { verdict, held }
 }
 
-fn tell_report(report: Report) {
+fn tell_report(rt: &HostRuntime, report: Report) {
     let verdict = report.verdict;
-    if passed(verdict) {
-        put(b" taken");
-        put_number(report.held.streams);
-        put_number(report.held.zones);
-        put_number(report.held.counts);
+    if passed(rt, verdict) {
+        put(rt, b" taken");
+        put_number(rt, report.held.streams);
+        put_number(rt, report.held.zones);
+        put_number(rt, report.held.counts);
     }
 }
 
 // A case of a plan file, for the junction file of its line.
-fn plan_case(junction_line: &[u8], line: &[u8]) {
+fn plan_case(rt: &HostRuntime, junction_line: &[u8], line: &[u8]) {
     let mut junction = case_text::file();
     let size = case_text::fill(junction_line, &mut junction);
-    plan_answer(&junction[0..size], line);
+    plan_answer(rt, &junction[0..size], line);
 }
 
-fn plan_answer(junction: &[u8], line: &[u8]) {
+fn plan_answer(rt: &HostRuntime, junction: &[u8], line: &[u8]) {
     if case_text::begins(line, b"judge ") {
-        return judge(junction, line);
+        return judge(rt, junction, line);
     }
     if case_text::begins(line, b"delay ") {
-        return delay(junction, line);
+        return delay(rt, junction, line);
     }
-    shift(junction, line);
+    shift(rt, junction, line);
 }
 
-fn judge(junction: &[u8], line: &[u8]) {
+fn judge(rt: &HostRuntime, junction: &[u8], line: &[u8]) {
     let mut plan = case_text::file();
     let size = case_text::fill(line, &mut plan);
-    if passed(plan_judge::judge(junction, &plan[0..size])) {
-        put(b" accepted");
+    if passed(rt, plan_judge::judge(junction, &plan[0..size])) {
+        put(rt, b" accepted");
     }
 }
 
-fn delay(junction: &[u8], line: &[u8]) {
+fn delay(rt: &HostRuntime, junction: &[u8], line: &[u8]) {
     let mut plan = case_text::file();
     let size = case_text::fill_after_number(line, &mut plan);
-    tell_delayed(delays::delay(
-        junction,
-        &plan[0..size],
-        case_text::number(line, MOST_NUMBER),
-    ));
+    tell_delayed(
+        rt,
+        delays::delay(
+            junction,
+            &plan[0..size],
+            case_text::number(line, MOST_NUMBER),
+        ),
+    );
 }
 
-fn tell_delayed(answer: Delayed) {
+fn tell_delayed(rt: &HostRuntime, answer: Delayed) {
     match answer {
-        Delayed::Refused { number, place } => tell_refusal(number, place),
-        Delayed::Told { service, level } => tell_told(service, level),
+        Delayed::Refused { number, place } => tell_refusal(rt, number, place),
+        Delayed::Told { service, level } => tell_told(rt, service, level),
     }
 }
 
-fn tell_told(service: Service, level: Level) {
+fn tell_told(rt: &HostRuntime, service: Service, level: Level) {
     match service {
-        Service::Delay(d) => tell_value(b" delay ", d),
-        Service::Oversaturated(u) => tell_value(b" saturation ", u),
-        Service::NoRed => put(b" no red"),
+        Service::Delay(d) => tell_value(rt, b" delay ", d),
+        Service::Oversaturated(u) => tell_value(rt, b" saturation ", u),
+        Service::NoRed => put(rt, b" no red"),
     }
-    put(b" ");
-    put(&[service_level::letter(level)]);
+    put(rt, b" ");
+    put(rt, &[service_level::letter(level)]);
 }
 
-fn tell_value(word: &[u8], x: f64) {
-    put(word);
-    case_text::put_bits(bits(x));
+fn tell_value(rt: &HostRuntime, word: &[u8], x: f64) {
+    put(rt, word);
+    case_text::put_bits(rt, bits(x));
 }
 
 // The bits of a number that is not below 0; 0 for any other, which no answer has.
@@ -207,18 +242,18 @@ fn bits(x: f64) -> u64 {
     0
 }
 
-fn shift(junction: &[u8], line: &[u8]) {
+fn shift(rt: &HostRuntime, junction: &[u8], line: &[u8]) {
     let mut plan = case_text::file();
     let size = case_text::fill_after_number(line, &mut plan);
     let offset = case_text::number(line, MOST_NUMBER);
     let verdict = shift_lent(junction, size, &mut plan, offset);
-    if passed(verdict) {
-        put(b" shifted ");
-        case_text::put_bytes(&plan[0..size]);
+    if passed(rt, verdict) {
+        put(rt, b" shifted ");
+        case_text::put_bytes(rt, &plan[0..size]);
     } else {
         let mut before = case_text::file();
         case_text::fill_after_number(line, &mut before);
-        tell_kept(case_text::begins(&before, &plan));
+        tell_kept(rt, case_text::begins(&before, &plan));
     }
 }
 
@@ -229,20 +264,20 @@ fn shift_lent(junction: &[u8], size: usize, plan: &mut [u8], offset: usize) -> V
     offsets::shift(junction, &mut plan[0..size], offset)
 }
 
-fn plan(line: &[u8]) {
+fn plan(rt: &HostRuntime, line: &[u8]) {
     let mut junction = case_text::file();
     let size = case_text::fill_after_number(line, &mut junction);
-    work_out(&junction[0..size], case_text::number(line, 300));
+    work_out(rt, &junction[0..size], case_text::number(line, 300));
 }
 
-fn work_out(junction: &[u8], room: usize)
+fn work_out(rt: &HostRuntime, junction: &[u8], room: usize)
     requires { room ≤ 300 }
 {
     let mut out = [BEFORE; 300];
     let worked = lend(junction, room, &mut out);
-    let size = tell_worked(worked);
-    case_text::put_bytes(&out[0..size]);
-    tell_kept(case_text::begins(&[BEFORE; 300], &out[size..]));
+    let size = tell_worked(rt, worked);
+    case_text::put_bytes(rt, &out[0..size]);
+    tell_kept(rt, case_text::begins(&[BEFORE; 300], &out[size..]));
 }
 
 // The first bytes of the buffer are lent on.
@@ -253,16 +288,16 @@ fn lend(junction: &[u8], room: usize, out: &mut [u8]) -> Worked
 }
 
 // Prints all but the bytes of the plan file, and answers how many these are.
-fn tell_worked(worked: Worked) -> usize
+fn tell_worked(rt: &HostRuntime, worked: Worked) -> usize
     ensures { result ≤ 300 }
 {
     let verdict = worked.verdict;
-    if passed(verdict) {
-        put(b" cycle");
-        put_number(worked.cycle as usize);
-        put(b" tried");
-        put_number(worked.tried as usize);
-        put(b" plan ");
+    if passed(rt, verdict) {
+        put(rt, b" cycle");
+        put_number(rt, worked.cycle as usize);
+        put(rt, b" tried");
+        put_number(rt, worked.tried as usize);
+        put(rt, b" plan ");
         return within(worked.size);
     }
     0
@@ -274,21 +309,24 @@ fn within(size: usize) -> usize
     if size <= 300 { size } else { 0 }
 }
 
-fn tell_kept(kept: bool) {
+fn tell_kept(rt: &HostRuntime, kept: bool) {
     if kept {
-        put(b" kept");
+        put(rt, b" kept");
     } else {
-        put(b" spoilt");
+        put(rt, b" spoilt");
     }
 }
 
-fn portable(line: &[u8]) {
-    tell_portable(roadworks::work_out(
-        case_text::number_at(line, 0),
-        case_text::number_at(line, 1),
-        approach(line, 2),
-        approach(line, 5),
-    ));
+fn portable(rt: &HostRuntime, line: &[u8]) {
+    tell_portable(
+        rt,
+        roadworks::work_out(
+            case_text::number_at(line, 0),
+            case_text::number_at(line, 1),
+            approach(line, 2),
+            approach(line, 5),
+        ),
+    );
 }
 
 // The approach of the numbers at a place and after it.
@@ -302,27 +340,27 @@ fn approach(line: &[u8], place: usize) -> Approach
     }
 }
 
-fn tell_portable(answer: Portable) {
+fn tell_portable(rt: &HostRuntime, answer: Portable) {
     match answer {
-        Portable::Refused { number, place } => tell_refusal(number, place),
-        Portable::Timed(timing) => tell_timing(timing),
+        Portable::Refused { number, place } => tell_refusal(rt, number, place),
+        Portable::Timed(timing) => tell_timing(rt, timing),
     }
 }
 
-fn tell_timing(timing: Timing) {
+fn tell_timing(rt: &HostRuntime, timing: Timing) {
     let greens = timing.greens;
-    put(b" t");
-    put_number(timing.table.clearing as usize);
-    put(b" L");
-    put_number(timing.table.lost as usize);
-    put(b" cycle");
-    put_number(timing.cycle as usize);
-    tell_green(1, greens.first);
-    tell_green(2, greens.second);
+    put(rt, b" t");
+    put_number(rt, timing.table.clearing as usize);
+    put(rt, b" L");
+    put_number(rt, timing.table.lost as usize);
+    put(rt, b" cycle");
+    put_number(rt, timing.cycle as usize);
+    tell_green(rt, 1, greens.first);
+    tell_green(rt, 2, greens.second);
 }
 
-fn tell_green(n: usize, green: Green) {
-    put_number(n);
-    put_number(green.start as usize);
-    put_number(green.length as usize);
+fn tell_green(rt: &HostRuntime, n: usize, green: Green) {
+    put_number(rt, n);
+    put_number(rt, green.start as usize);
+    put_number(rt, green.length as usize);
 }

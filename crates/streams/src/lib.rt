@@ -1,9 +1,11 @@
 // The streams of a junction (document 01, "The junction file"). Lengths are decimetres unless said; a flag is true where the
 // file has 1.
+#![tactic(auto)]
+
 ghost use Rattle.std.specs.Prelude.{◌≡◌};
 ghost use Rattle.streams.specs.Kinds.{is_car, is_pedestrian_or_tram};
 
-#[derive(Drop)]
+#[derive(Clone, Copy)]
 pub struct CarFigures {
     // Amber in seconds.
     pub amber: u8,
@@ -24,7 +26,7 @@ pub struct CarFigures {
     pub right: u8,
 }
 
-#[derive(Drop)]
+#[derive(Clone, Copy)]
 pub struct TramFigures {
     // Starts from a stop before the line.
     pub stop: bool,
@@ -33,7 +35,7 @@ pub struct TramFigures {
     pub hourly: u8,
 }
 
-#[derive(Drop)]
+#[derive(Clone, Copy)]
 pub struct PedestrianFigures {
     // Clearing speed in decimetres a second.
     pub speed: u8,
@@ -47,14 +49,14 @@ pub struct PedestrianFigures {
     pub disturbed: bool,
 }
 
-#[derive(Drop)]
+#[derive(Clone, Copy)]
 pub struct CyclistFigures {
     // The time to reach a zone is counted.
     pub counted: bool,
 }
 
 // Pedestrians who cross two carriageways and the island between them in one go.
-#[derive(Drop)]
+#[derive(Clone, Copy)]
 pub struct IslandFigures {
     // The figures of any crossing.
     pub walk: PedestrianFigures,
@@ -67,7 +69,7 @@ pub struct IslandFigures {
 }
 
 // Each kind of stream has figures of its own.
-#[derive(Drop)]
+#[derive(Clone, Copy)]
 pub enum Kind {
     Car(CarFigures),
     Tram(TramFigures),
@@ -76,7 +78,7 @@ pub enum Kind {
     Island(IslandFigures),
 }
 
-#[derive(Drop)]
+#[derive(Clone, Copy)]
 pub struct Stream {
     pub phase: u8,
     pub kind: Kind,

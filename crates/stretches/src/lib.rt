@@ -1,9 +1,11 @@
 // The annex's table for portable signals (annex, part B, 2; document 02, 2026-07).
+#![tactic(auto)]
+
 ghost use Rattle.std.specs.Prelude.{true, ◌≡◌, ◌<◌};
 ghost use Rattle.stretches.specs.Table.{listed as is_listed, entry as entry_of, table_times};
 
 // The table's t and L for a stretch and a speed, in tenths of a second.
-#[derive(Drop)]
+#[derive(Clone, Copy)]
 pub struct TableTimes {
     pub clearing: u16,
     pub lost: u16,
@@ -44,6 +46,7 @@ const TABLE: [[u16; 8]; 30] = [
 ];
 
 // Whether the table has a stretch in metres and a speed in km/h.
+#[tactic(auto, unfolding(crate::specs::Table::listed, crate::specs::Table::by_steps))]
 pub fn listed(stretch: usize, speed: usize) -> bool
     ensures { result ≡ is_listed stretch speed }
 {
@@ -53,6 +56,7 @@ pub fn listed(stretch: usize, speed: usize) -> bool
 }
 
 // What the table has for them.
+#[tactic(auto, using(crate::specs::Listed::placed))]
 pub fn times(stretch: usize, speed: usize) -> TableTimes
     requires { is_listed stretch speed ≡ true }
     ensures { result ≡ table_times stretch speed }
@@ -66,6 +70,7 @@ pub fn times(stretch: usize, speed: usize) -> TableTimes
 }
 
 // The number in a row and a column, from 0.
+#[tactic(auto, unfolding(crate::specs::Table::entry, crate::specs::Table::table))]
 fn entry(row: usize, column: usize) -> u16
     requires row { row < 30 }
     requires column { column < 8 }

@@ -1,4 +1,3 @@
 pub mod Literals
-pub mod Printed
 pub mod Tenths
 pub mod lemmas

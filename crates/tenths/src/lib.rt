@@ -1,5 +1,7 @@
-// Tenths of a delay or a saturation, as a program prints them (document 02, 2026-05). A delay is rounded up, so that what is printed lies at or below
-// a level's limit exactly where the delay does; a saturation is rounded down, so that 1.0 is printed where it is 1.
+// Tenths of a delay or a saturation, as a program prints them (document 02, 2026-05). A delay is rounded up, so that what is printed lies at or
+// below a level's limit exactly where the delay does; a saturation is rounded down, so that 1.0 is printed where it is 1.
+#![tactic(auto)]
+
 ghost use Rattle.std.specs.Prelude.{◌≡◌};
 ghost use Rattle.tenths.specs.Tenths.{tenths_up, tenths_down};
 
@@ -7,6 +9,7 @@ ghost use Rattle.tenths.specs.Tenths.{tenths_up, tenths_down};
 pub const TENTHS_END: u32 = 100000;
 
 // The least whole number that is not below ten times x in f64; TENTHS_END where every number below that is too small.
+#[tactic(auto, unfolding(crate::specs::Tenths::tenths_up))]
 pub fn tenths_up(x: f64) -> u32
     ensures { result ≡ tenths_up x }
 {
@@ -22,6 +25,7 @@ pub fn tenths_up(x: f64) -> u32
 }
 
 // That number, or the one before it where it is above ten times x.
+#[tactic(auto, unfolding(crate::specs::Tenths::tenths_down))]
 pub fn tenths_down(x: f64) -> u32
     ensures { result ≡ tenths_down x }
 {

@@ -1,6 +1,5 @@
 pub mod Comparison
 pub mod Entry
 pub mod Least
-pub mod Monotone
 pub mod Times
 pub mod lemmas

@@ -21,8 +21,8 @@ car_leaving c l =
     cond (eqb c.radius 0) (car_time 3 100 c.amber l)
     (cond (ltb 150 c.radius) (car_time 2 70 c.amber l) (car_time 2 50 c.amber l))
 
--- the larger of √(q/e) and n/d, compared exactly: n/d where √(q/e) ≤ n/d, which is `rootRatio` with gap 0. What "the larger" means, without
--- this test, is `longer-at-least` of exact_times/specs/Larger.antt.
+-- the larger of √(q/e) and n/d, compared exactly: n/d where √(q/e) ≤ n/d, which is `root_ratio` with gap 0. What "the larger" means, without
+-- this test, is `longer_at_least` of exact_times/proofs/Larger.antt.
 unfoldable pub longer : ℕ → ℕ → ℕ → ℕ → Time
 longer q e n d = cond (root_ratio q e n d 0) (Ratio n d) (Root q e 0)
 

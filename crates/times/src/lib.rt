@@ -1,14 +1,19 @@
 // Times at a conflict zone and the entry from one stream to another (annex, section 1; document 01, "Times at a zone", with document 02).
+#![tactic(auto)]
+
 ghost use Rattle.std.specs.Prelude.{◌≡◌, ◌≤◌, ◌^◌};
 ghost use Rattle.times.specs.lemmas.Bounds.{TimeSmall, SmallRatio, SmallRoot, SmallRoots, Timed};
-ghost use Rattle.times.specs.Comparison.{ratio_ratio, ratio_root, root_ratio, root_after, root_before, root_root, ratio_within, root_within, within as within_gap};
-ghost use Rattle.times.specs.Times.{car_time, car_leaving, longer as longer_of, stop_leaving, tram_leaving, walk_leaving, leaving as leaving_time, passing as passing_time, car_reaching, tram_reaching, counted_reaching, walk_reaching, reaching as reaching_time};
+ghost use Rattle.times.specs.Comparison.{ratio_ratio, ratio_root, root_ratio, root_after, root_before, root_root, ratio_within, root_within};
+ghost use Rattle.times.specs.Comparison.{within as within_gap};
+ghost use Rattle.times.specs.Times.{car_time, car_leaving, longer as longer_of, stop_leaving, tram_leaving, walk_leaving};
+ghost use Rattle.times.specs.Times.{leaving as leaving_time, passing as passing_time, car_reaching, tram_reaching, counted_reaching};
+ghost use Rattle.times.specs.Times.{walk_reaching, reaching as reaching_time};
 ghost use Rattle.times.specs.Entry.{least_gap, entry as entry_of};
 
 use streams::{CarFigures, Kind, PedestrianFigures, Stream, TramFigures};
 
 // A time in seconds, exactly.
-#[derive(Drop)]
+#[derive(Clone, Copy)]
 pub enum Time {
     // n / d
     Ratio { n: u64, d: u64 },
@@ -19,6 +24,7 @@ pub enum Time {
 // The entry from stream i to stream j at one zone, (19), with i's clearing and j's reaching distance in decimetres: the least whole number
 // of seconds, not below 0, that is at least leaving minus reaching. It is 65,535 where no smaller number is enough, as for a
 // pedestrian whose speed is 0, which no file holds.
+#[tactic(auto, unfolding(crate::specs::Entry::entry))]
 pub fn entry(i: Stream, j: Stream, clearing: u16, reach: u16) -> u16
     ensures { result ≡ entry_of i j clearing reach }
 {
@@ -27,9 +33,10 @@ pub fn entry(i: Stream, j: Stream, clearing: u16, reach: u16) -> u16
     least_gap(leaving(leaves, clearing), reaching(reaches, reach))
 }
 
+#[tactic(auto, unfolding(crate::specs::Entry::least_gap))]
 fn least_gap(leave: Time, reach: Time) -> u16
-    requires fact_1 { TimeSmall leave }
-    requires fact_2 { TimeSmall reach }
+    requires leaving_small { TimeSmall leave }
+    requires reaching_small { TimeSmall reach }
     ensures { result ≡ least_gap leave reach }
 {
     let mut gap: u16 = 0;
@@ -43,10 +50,11 @@ fn least_gap(leave: Time, reach: Time) -> u16
 }
 
 // Whether the leaving time is at most gap + the reaching time.
+#[tactic(auto, unfolding(crate::specs::Comparison::within))]
 fn within(leave: Time, reach: Time, gap: u64) -> bool
-    requires fact_1 { TimeSmall leave }
-    requires fact_2 { TimeSmall reach }
-    requires fact_3 { gap ≤ 65535 }
+    requires leaving_small { TimeSmall leave }
+    requires reaching_small { TimeSmall reach }
+    requires gap_small { gap ≤ 65535 }
     ensures { result ≡ within_gap leave reach gap }
 {
     match leave {
@@ -55,10 +63,11 @@ fn within(leave: Time, reach: Time, gap: u64) -> bool
     }
 }
 
+#[tactic(auto, unfolding(crate::specs::Comparison::ratio_within))]
 fn ratio_within(m: u64, b: u64, reach: Time, gap: u64) -> bool
-    requires fact_1 { SmallRatio m b }
-    requires fact_2 { TimeSmall reach }
-    requires fact_3 { gap ≤ 2 ^ 16 }
+    requires leaving_small { SmallRatio m b }
+    requires reaching_small { TimeSmall reach }
+    requires gap_small { gap ≤ 2 ^ 16 }
     ensures { result ≡ ratio_within m b reach gap }
 {
     match reach {
@@ -67,10 +76,11 @@ fn ratio_within(m: u64, b: u64, reach: Time, gap: u64) -> bool
     }
 }
 
+#[tactic(auto, unfolding(crate::specs::Comparison::root_within))]
 fn root_within(q: u64, e: u64, reach: Time, gap: u64) -> bool
-    requires fact_1 { SmallRoot q e 0 }
-    requires fact_2 { TimeSmall reach }
-    requires fact_3 { gap ≤ 2 ^ 16 }
+    requires leaving_small { SmallRoot q e 0 }
+    requires reaching_small { TimeSmall reach }
+    requires gap_small { gap ≤ 2 ^ 16 }
     ensures { result ≡ root_within q e reach gap }
 {
     match reach {
@@ -79,39 +89,43 @@ fn root_within(q: u64, e: u64, reach: Time, gap: u64) -> bool
     }
 }
 
+#[tactic(auto, unfolding(crate::specs::Comparison::ratio_ratio))]
 fn ratio_ratio(m: u64, b: u64, n: u64, d: u64, gap: u64) -> bool
-    requires fact_1 { SmallRatio m b }
-    requires fact_2 { SmallRatio n d }
-    requires fact_3 { gap ≤ 2 ^ 16 }
+    requires leaving_small { SmallRatio m b }
+    requires reaching_small { SmallRatio n d }
+    requires gap_small { gap ≤ 2 ^ 16 }
     ensures { result ≡ ratio_ratio m b n d gap }
 {
     m * d <= gap * b * d + n * b
 }
 
+#[tactic(auto, unfolding(crate::specs::Comparison::ratio_root))]
 fn ratio_root(m: u64, b: u64, p: u64, f: u64, c: u64, gap: u64) -> bool
-    requires fact_1 { SmallRatio m b }
-    requires fact_2 { SmallRoot p f c }
-    requires fact_3 { gap ≤ 2 ^ 16 }
+    requires leaving_small { SmallRatio m b }
+    requires reaching_small { SmallRoot p f c }
+    requires gap_small { gap ≤ 2 ^ 16 }
     ensures { result ≡ ratio_root m b p f c gap }
 {
     let side = laws::above(m + c * b, gap * b);
     side * side * f <= p * (b * b)
 }
 
+#[tactic(auto, unfolding(crate::specs::Comparison::root_ratio))]
 fn root_ratio(q: u64, e: u64, n: u64, d: u64, gap: u64) -> bool
-    requires fact_1 { SmallRoot q e 0 }
-    requires fact_2 { SmallRatio n d }
-    requires fact_3 { gap ≤ 2 ^ 16 }
+    requires leaving_small { SmallRoot q e 0 }
+    requires reaching_small { SmallRatio n d }
+    requires gap_small { gap ≤ 2 ^ 16 }
     ensures { result ≡ root_ratio q e n d gap }
 {
     let side = gap * d + n;
     q * (d * d) <= side * side * e
 }
 
+#[tactic(auto, unfolding(crate::specs::Comparison::root_root))]
 fn root_root(a: u64, p: u64, s: u64, c: u64, gap: u64) -> bool
-    requires fact_1 { SmallRoots a p s }
-    requires fact_2 { c ≤ 1 }
-    requires fact_3 { gap ≤ 2 ^ 16 }
+    requires roots_small { SmallRoots a p s }
+    requires less_small { c ≤ 1 }
+    requires gap_small { gap ≤ 2 ^ 16 }
     ensures { result ≡ root_root a p s c gap }
 {
     if c <= gap {
@@ -120,9 +134,10 @@ fn root_root(a: u64, p: u64, s: u64, c: u64, gap: u64) -> bool
     root_before(a, p, s, c - gap)
 }
 
+#[tactic(auto, unfolding(crate::specs::Comparison::root_after, crate::specs::Comparison::below_root))]
 fn root_after(a: u64, p: u64, s: u64, k: u64) -> bool
-    requires fact_1 { SmallRoots a p s }
-    requires fact_2 { k ≤ 2 ^ 16 }
+    requires roots_small { SmallRoots a p s }
+    requires factor_small { k ≤ 2 ^ 16 }
     ensures { result ≡ root_after a p s k }
 {
     let square = k * k;
@@ -130,9 +145,10 @@ fn root_after(a: u64, p: u64, s: u64, k: u64) -> bool
     side * side <= 4 * square * s * p
 }
 
+#[tactic(auto, unfolding(crate::specs::Comparison::root_before, crate::specs::Comparison::root_below))]
 fn root_before(a: u64, p: u64, s: u64, h: u64) -> bool
-    requires fact_1 { SmallRoots a p s }
-    requires fact_2 { h ≤ 1 }
+    requires roots_small { SmallRoots a p s }
+    requires factor_small { h ≤ 1 }
     ensures { result ≡ root_before a p s h }
 {
     let square = h * h;
@@ -142,6 +158,7 @@ fn root_before(a: u64, p: u64, s: u64, h: u64) -> bool
 }
 
 // The time from the end of green until the last participant leaves, with clearing distance l; a cyclist's by (5', 12').
+#[tactic(auto, unfolding(crate::specs::Times::leaving))]
 fn leaving(kind: Kind, l: u16) -> Time
     ensures { Timed result (leaving_time kind l) }
 {
@@ -158,6 +175,7 @@ fn leaving(kind: Kind, l: u16) -> Time
 }
 
 // A car: straight (1, 7), turning with a radius above 150 dm (2, 8), any other turn (2, 9).
+#[tactic(auto, unfolding(crate::specs::Times::car_leaving))]
 fn car_leaving(c: CarFigures, l: u16) -> Time
     ensures { Timed result (car_leaving c l) }
 {
@@ -171,6 +189,7 @@ fn car_leaving(c: CarFigures, l: u16) -> Time
 }
 
 // approach + (l + 60)/speed, raised to amber + 1 if lower (9').
+#[tactic(auto, unfolding(crate::specs::Times::car_time))]
 fn car_time(approach: u8, speed: u8, amber: u8, l: u16) -> Time
     ensures { Timed result (car_time approach speed amber l) }
 {
@@ -184,6 +203,7 @@ fn car_time(approach: u8, speed: u8, amber: u8, l: u16) -> Time
 }
 
 // A tram, from a stop or running (3, 10).
+#[tactic(auto, unfolding(crate::specs::Times::tram_leaving))]
 fn tram_leaving(t: TramFigures, l: u16) -> Time
     ensures { Timed result (tram_leaving t l) }
 {
@@ -198,6 +218,7 @@ fn tram_leaving(t: TramFigures, l: u16) -> Time
 }
 
 // From a stop: (4, 11) up to 400 dm, beyond it the larger of (11) at 400 and (11') (document 02, 2026-02).
+#[tactic(auto, unfolding(crate::specs::Times::stop_leaving))]
 fn stop_leaving(length: u16, l: u16) -> Time
     ensures { Timed result (stop_leaving length l) }
 {
@@ -215,9 +236,10 @@ fn stop_leaving(length: u16, l: u16) -> Time
 }
 
 // The larger of the square root of q / e and n / d, compared exactly.
+#[tactic(auto, unfolding(crate::specs::Times::longer))]
 fn longer(q: u64, e: u64, n: u64, d: u64) -> Time
-    requires fact_1 { SmallRoot q e 0 }
-    requires fact_2 { SmallRatio n d }
+    requires root_small { SmallRoot q e 0 }
+    requires ratio_small { SmallRatio n d }
     ensures { Timed result (longer_of q e n d) }
 {
     if root_ratio(q, e, n, d, 0) {
@@ -227,6 +249,7 @@ fn longer(q: u64, e: u64, n: u64, d: u64) -> Time
 }
 
 // A pedestrian, over an island too (5, 12).
+#[tactic(auto, unfolding(crate::specs::Times::walk_leaving))]
 fn walk_leaving(p: PedestrianFigures, l: u16) -> Time
     ensures { Timed result (walk_leaving p l) }
 {
@@ -237,6 +260,7 @@ fn walk_leaving(p: PedestrianFigures, l: u16) -> Time
 }
 
 // The time from the start of green until the first participant reaches the zone, with reaching distance r.
+#[tactic(auto, unfolding(crate::specs::Times::reaching))]
 fn reaching(kind: Kind, r: u16) -> Time
     ensures { Timed result (reaching_time kind r) }
 {
@@ -250,6 +274,7 @@ fn reaching(kind: Kind, r: u16) -> Time
 }
 
 // A car, flying (14) or standing (13).
+#[tactic(auto, unfolding(crate::specs::Times::car_reaching))]
 fn car_reaching(c: CarFigures, r: u16) -> Time
     ensures { Timed result (car_reaching c r) }
 {
@@ -264,6 +289,7 @@ fn car_reaching(c: CarFigures, r: u16) -> Time
 }
 
 // A tram, from a stop (15) or running (16).
+#[tactic(auto, unfolding(crate::specs::Times::tram_reaching))]
 fn tram_reaching(t: TramFigures, r: u16) -> Time
     ensures { Timed result (tram_reaching t r) }
 {
@@ -278,6 +304,7 @@ fn tram_reaching(t: TramFigures, r: u16) -> Time
 }
 
 // (14), (16).
+#[tactic(auto, unfolding(crate::specs::Times::passing))]
 fn passing(r: u16) -> Time
     ensures { Timed result (passing_time r) }
 {
@@ -289,6 +316,7 @@ fn passing(r: u16) -> Time
 }
 
 // A pedestrian, over an island too (17, 18).
+#[tactic(auto, unfolding(crate::specs::Times::walk_reaching))]
 fn walk_reaching(p: PedestrianFigures, r: u16) -> Time
     ensures { Timed result (walk_reaching p r) }
 {
@@ -296,6 +324,7 @@ fn walk_reaching(p: PedestrianFigures, r: u16) -> Time
 }
 
 // (18), (18') where the time is counted, else 0 (17, 17').
+#[tactic(auto, unfolding(crate::specs::Times::counted_reaching))]
 fn counted_reaching(counted: bool, r: u16, speed: u8) -> Time
     ensures { Timed result (counted_reaching counted r speed) }
 {

@@ -1,5 +1,5 @@
--- Delays of request 2026-05 by their 64 bits, worked out apart with another program's f64, in one table with one proof over it: a value for each constant
--- of the formulas, and both sides of each level's limit, of no red and of exact capacity.
+-- Delays of request 2026-05 by their 64 bits, worked out apart with another program's f64, in one table with one proof over it: a value for each
+-- constant of the formulas, and both sides of each level's limit, of no red and of exact capacity.
 use Rattle.std.specs.Prelude.{ℕ, List, [], ◌∷◌, map, ◌≡◌, refl}
 use Rattle.std.specs.Float.{binary64}
 use Rattle.std.specs.Float.Ieee.{to_bits}

@@ -1,7 +1,8 @@
 -- A value for every constant of the annex, worked by hand from its formulas, and the limits of documents 01 and 02, in one table with one proof over
 -- it. Where a constant could be a little more or less, the values stand on both sides of a whole second, or of a whole number.
 use Rattle.std.specs.Prelude.{ℕ, Bool, true, false, List, [], ◌∷◌, map, ◌≡◌, refl}
-use Rattle.limits.specs.Limits.{most_bytes, most_streams, most_zones, most_counts, most_phases, most_seconds, least_flow, greatest_flow, least_period, greatest_period}
+use Rattle.limits.specs.Limits.{most_bytes, most_streams, most_zones, most_counts, most_phases, most_seconds, least_flow, greatest_flow}
+use Rattle.limits.specs.Limits.{least_period, greatest_period}
 use Rattle.streams.specs.declared.Kind.{Kind}
 use Rattle.streams.specs.declared.Kind.TheVariants.{Car, Tram, Pedestrian, Cyclist, Island}
 use Rattle.streams.specs.declared.Stream.{Stream}
@@ -64,7 +65,17 @@ after5 j r = entry (car 3 false 0) j 140 r
 -- S of a car of width 350 by gradient plus 10, conditions, left and right share
 saturation : ℕ → ℕ → ℕ → ℕ → ℕ
 saturation gradient conditions left right =
-    saturation_flow (record { amber = 3; flying = false; radius = 0; width = 350; rows = 1; gradient = gradient; conditions = conditions; left = left; right = right })
+    saturation_flow (record {
+      amber = 3;
+      flying = false;
+      radius = 0;
+      width = 350;
+      rows = 1;
+      gradient = gradient;
+      conditions = conditions;
+      left = left;
+      right = right;
+    })
 
 -- a phase with cars by y and M, and one without by need and M
 cars : ℕ → ℕ → Phase
@@ -138,7 +149,8 @@ values =
     -- (39): 120/12 = 10, 109/12 above 9; 160/16 = 10, 161/16 above it; 16 dm/s from 121 dm on, or up to 120 people
     (need_at 50 (walker 120 200 false false) is 10) ∷ (need_at 50 (walker 109 200 false false) is 10) ∷
     (need_at 50 (walker 160 200 false false) is 10) ∷ (need_at 50 (walker 161 200 false false) is 11) ∷
-    (need_at 50 (walker 121 200 false false) is 8) ∷ (need_at 50 (walker 120 120 false false) is 8) ∷ (need_at 50 (walker 120 121 false false) is 10) ∷
+    (need_at 50 (walker 121 200 false false) is 8) ∷ (need_at 50 (walker 120 120 false false) is 8) ∷
+    (need_at 50 (walker 120 121 false false) is 10) ∷
     -- (40): 3 s more if disturbed; at least 6
     (need_at 50 (walker 120 200 false true) is 13) ∷ (need_at 50 (walker 10 200 false false) is 6) ∷
     -- (39'): (60 + 20 + 40)/12 = 10; a decimetre more of carriageway or island, or the next packet, is above it; by 12 also where the crossing is

@@ -14,13 +14,14 @@ use Rattle.junction_places.specs.Places.{stream_numbered}
 use Rattle.junction_file.specs.Taken.{Taken}
 use Rattle.phase_lengths.specs.Phases.{lost_time}
 use Rattle.phase_lengths.specs.declared.Phases.{Phases}
-use Rattle.phase_greens.specs.Fills.{Right, start_within}
+use Rattle.phase_greens.proofs.Fills.{start_within}
+use Rattle.phase_greens.specs.Fills.{Right}
 use Rattle.phase_greens.specs.Greens.{sharing, first_below_one, gives_greens}
 use Rattle.phase_greens.specs.Slots.{slot_at}
 use Rattle.phase_greens.specs.declared.Slot.{Slot}
 use Rattle.junction_phases.specs.JunctionPhases.{phases_at}
 use Rattle.junction_phases.specs.Meaning.{count_phases}
-use Rattle.junction_phases.specs.lemmas.Right.{phases_right_lem}
+use Rattle.junction_phases.proofs.lemmas.Right.{phases_right_lem}
 use Rattle.plan_rules.specs.Rules.{need_met, capacity_met, zone_met, rules_verdict}
 use Rattle.cycle_search.specs.Planning.{plan_at, rule_outcome, outcome, is_works, works}
 

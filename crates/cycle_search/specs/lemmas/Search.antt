@@ -6,7 +6,7 @@ use Rattle.std.specs.Prelude.{Bool, true, false, ◌≡◌, refl, eqb}
 use Rattle.std.proofs.Math.Path.{sym}
 use borrow.Author.Tests.{lt-ltb, eqb-true, eqb-false}
 use Rattle.laws.specs.Ranges.{Between}
-use Rattle.laws.specs.Search.{first_found, first_next, first_out}
+use Rattle.laws.proofs.Search.{first_found, first_next, first_out}
 use Rattle.laws.specs.Tests.{by_test}
 use Rattle.limits.specs.Limits.{no_cycle, most_seconds}
 use Rattle.junction.specs.declared.Junction.{Junction}

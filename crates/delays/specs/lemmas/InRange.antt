@@ -22,7 +22,7 @@ use Rattle.junction_figures.specs.Figures.{stream_flow, kind_saturation, stream_
 use Rattle.junction_figures.specs.Positive.{saturation_some}
 use Rattle.plan_file.specs.Plans.{plan_of, green_of}
 use Rattle.plan_judge.specs.Judgement.{judgement}
-use Rattle.plan_judge.specs.Written.{accepted_pair}
+use Rattle.plan_judge.proofs.Written.{accepted_pair}
 use Rattle.service_level.specs.Divisors.{Numbers}
 
 base_small : (c : CarFigures) → c.width < 2 ^ 16 → base_flow c < 2 ^ 19

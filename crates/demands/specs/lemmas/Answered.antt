@@ -2,7 +2,7 @@
 use Rattle.std.specs.Prelude.{ℕ, zero, suc, ◌+◌, ◌-◌, Bool, true, false, not, List, ◌≡◌, leb, ltb, length}
 use Rattle.std.proofs.Common.{add-sub_cancel, ◌∙◌, ap}
 use Rattle.std.proofs.Math.Path.{refl, sym}
-use Rattle.laws.specs.Search.{first_same}
+use Rattle.laws.proofs.Search.{first_same}
 use Rattle.laws.specs.Tests.{by_test}
 use Rattle.limits.specs.Limits.{most_bytes}
 use Rattle.fields.specs.Bytes.{byte_at, number_at, field_end, body_of}
@@ -12,13 +12,11 @@ use Rattle.junction.specs.declared.Junction.{Junction}
 use Rattle.junction_places.specs.Blank.{blank}
 use Rattle.junction_questions.specs.Questions.{body_verdict, field_verdict, lacks_count, first_lacking, counts_verdict, whole_verdict}
 use Rattle.junction_file.specs.Reading.{with_field, after_field, read_field, at_end, read_from, reading}
-use Rattle.plan_file.specs.Plans.{due_verdict, cycle_expected, cycle_in_range, cycle_verdict, green_expected, green_in_range, green_verdict, greens_from, plan_verdict, plan_of}
-use Rattle.plan_rules.specs.Rules.{need_met, capacity_met, zone_met, rules_verdict}
-use Rattle.plan_judge.specs.Judgement.{plan_judgement, judgement}
-use Rattle.planner.specs.lemmas.Cases.{file_verdict_lem}
+use Rattle.plan_file.specs.Plans.{due_verdict, cycle_expected, cycle_in_range, cycle_verdict, green_expected, green_in_range, green_verdict, greens_from, plan_verdict}
+use Rattle.planner.proofs.lemmas.Cases.{file_verdict_lem}
 use Rattle.planner.specs.WorkingOut.{calculation, junction_verdict, worked}
-use Rattle.demands.specs.Asked.{answer, answer_append, answer_each, answer_each_last}
-use Rattle.demands.specs.Questions.{field_asked, counted, whole_asked, fields_asked, junction_asked, due_asked, greens_asked, plan_asked, rules_asked, calculation_asked, judge_asked, work_asked}
+use Rattle.demands.specs.Asked.{answer, answer_append, answer_each_last}
+use Rattle.demands.specs.Questions.{field_asked, counted, whole_asked, fields_asked, junction_asked, due_asked, greens_asked, plan_asked, calculation_asked, work_asked}
 
 field_answer : (s : List ℕ) (at : ℕ) (j : Junction) → answer (field_asked s at j) ≡ field_verdict s at j
 unfolding answer field_asked field_verdict body_verdict
@@ -71,18 +69,6 @@ unfolding plan_asked plan_verdict cycle_verdict
 plan_answer_lem s streams =
     answer_append (due_asked s 0 (cycle_expected s) (cycle_in_range (number_at s 3))) _
     ∙ rw (due_answer s 0 (cycle_expected s) (cycle_in_range (number_at s 3)), greens_answer streams s (field_end s 0) 1)
-
-rules_answer : (j : Junction) (plan : List ℕ) → answer (rules_asked j plan) ≡ rules_verdict j (plan_of plan)
-unfolding rules_asked rules_verdict
-rules_answer j plan =
-    let p = plan_of plan in
-    rw (answer_each (need_met j p) 15 j.held.streams _, answer_each (capacity_met j p) 16 j.held.streams _, answer_each_last (zone_met j p) 17 j.held.zones)
-
-pub judge_answer_lem : (junction plan : List ℕ) → judgement junction plan ≡ answer (judge_asked junction plan)
-unfolding judgement plan_judgement
-judge_answer_lem junction plan =
-    let j = (reading junction).junction in
-    sym (answer_append (junction_asked junction) _ ∙ rw (← read_answer junction, answer_append (plan_asked plan j.held.streams) (rules_asked j plan), plan_answer_lem plan j.held.streams, rules_answer j plan))
 
 pub work_answer : (junction : List ℕ) (size : ℕ) → (worked junction size).verdict ≡ answer (work_asked junction size)
 work_answer junction size =

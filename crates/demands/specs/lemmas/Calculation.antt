@@ -5,21 +5,17 @@ use Rattle.std.specs.Prelude.{Bool, true, false, List, ◌++◌, ◌↔◌, ◌�
 use Rattle.std.proofs.Math.Bool.{true≢false}
 use Rattle.std.proofs.lemmas.Bool.{false≢true}
 use Rattle.std.proofs.Math.Path.{sym, ap}
-use Rattle.laws.specs.Ranges.{Between}
 use Rattle.laws.specs.Tests.{by_test, both}
-use Rattle.limits.specs.Limits.{no_cycle, most_seconds}
+use Rattle.limits.specs.Limits.{no_cycle}
 use Rattle.fields.specs.Verdict.{number_of, is_refused, ask}
 use Rattle.fields.specs.declared.Verdict.TheVariants.{Passed, Refused}
 use Rattle.junction_file.specs.Reading.{reading}
-use Rattle.junction_file.specs.TakenFile.{taken}
+use Rattle.junction_file.proofs.TakenFile.{taken}
 use Rattle.plan_file.specs.Writing.{plan_size, has_room, has_room_lem, written}
-use Rattle.cycle_search.specs.Planning.{ratios, first_tried, plan_at, cycle, found}
-use Rattle.planner.specs.lemmas.Cases.{first_tried_range, found_cycle, cycle_works, file_verdict_lem, worked_passed, buffer_passed, file_taken, lent_taken}
-use Rattle.planner.specs.Demand2.{cycle_least, tried_bounds}
-use Rattle.planner.specs.declared.Worked.{Worked}
+use Rattle.cycle_search.specs.Planning.{ratios, plan_at, cycle}
+use Rattle.planner.proofs.lemmas.Cases.{file_verdict_lem, buffer_passed, lent_taken}
 use Rattle.planner.specs.WorkingOut.{calculation, junction_verdict, worked, buffer}
-use Rattle.demands.specs.Files.{plan_bytes, Accepted, Result}
-use Rattle.demands.specs.lemmas.Works.{works_file}
+use Rattle.demands.specs.Files.{plan_bytes}
 
 -- three questions asked in order
 module _ where
@@ -51,29 +47,6 @@ module _ where
   ask_none true true true = (λ e. (refl, refl, refl), λ e. refl)
 
 module _ (junction : List ℕ) (is : (reading junction).verdict ≡ Passed) where
-  -- a cycle is there exactly where some length is accepted
-  pub cycle_some : (cycle (reading junction).junction < no_cycle)
-      ↔ ((t : ℕ) × Between (first_tried (reading junction).junction) most_seconds t × Accepted junction t)
-  cycle_some =
-      let j = (reading junction).junction in
-      let first = first_tried_range j in (
-        λ low. let w = cycle_works j low in (cycle j, omega arith, (works_file junction is (cycle j) (omega arith)).0 w.1),
-        λ some. by_test (ltb (cycle j) no_cycle) (λ e. ltb-true _ _ e) (λ e.
-            let high : no_cycle ≤ cycle j = ltb-false _ _ e in
-            let works = (works_file junction is some.0 (omega arith)).1 some.2 in
-            absurd (true≢false (sym works ∙ cycle_least j some.0 (omega arith) (omega arith)))),
-      )
-
-  pub cycle_none : (no_cycle ≤ cycle (reading junction).junction)
-      ↔ ((t : ℕ) → first_tried (reading junction).junction ≤ t → t ≤ most_seconds → Accepted junction t → ⊥)
-  cycle_none =
-      let j = (reading junction).junction in (
-        λ high t low most a. let c = cycle_some.1 (t, omega arith, a) in omega arith,
-        λ none. by_test (ltb (cycle j) no_cycle)
-            (λ e. let some = cycle_some.0 (ltb-true _ _ e) in absurd (none some.0 some.1.0 some.1.1 some.2))
-            (λ e. ltb-false _ _ e),
-      )
-
   few : (reading junction).junction.held.streams ≤ 16
   few = (taken junction is).fields.few_streams
 
@@ -101,39 +74,10 @@ module _ (junction : List ℕ) (is : (reading junction).verdict ≡ Passed) wher
           λ h. by_test (has_room n (length lent)) (λ t. let enough = room_there.0 t in absurd (omega arith)) (λ t. t),
         )
 
-    buffer_is : junction_verdict (reading junction).junction (length lent) ≡ Passed → has_room (reading junction).junction.held.streams (length lent) ≡ true
+    pub buffer_is : junction_verdict (reading junction).junction (length lent) ≡ Passed → has_room (reading junction).junction.held.streams (length lent) ≡ true
         → buffer junction lent ≡ plan_bytes junction (cycle (reading junction).junction) ++ drop (5 + 8 * (reading junction).junction.held.streams) lent
     buffer_is passed room =
         let j = (reading junction).junction in
         let p = plan_at j (cycle j) in
         sym (buffer_passed j lent (ap is_refused passed) ∙ lent_taken junction lent (ap is_refused is))
         ∙ unfold written plan_size in rw room
-
-    pub answered : (worked junction (length lent)).verdict ≡ Passed → Result junction lent (worked junction (length lent))
-    answered e =
-        let j = (reading junction).junction in
-        let three = (ask_none (ltb (ratios j) 10000) (ltb (cycle j) no_cycle) (has_room j.held.streams (length lent))).0 (sym verdict_is ∙ e) in
-        let low : cycle j < no_cycle = ltb-true _ _ three.1 in
-        let passed : junction_verdict j (length lent) ≡ Passed = unfold junction_verdict calculation in (sym verdict_is ∙ e) in
-        let told : ℕ → Worked =
-        λ c. record {
-          verdict = junction_verdict j (length lent);
-          cycle = c;
-          tried = (found j (first_tried j)).tried;
-          size = plan_size j.held.streams;
-        } in
-        let searched = worked_passed j (length lent) (ap is_refused passed) ∙ file_taken junction (length lent) (ap is_refused is) in
-        let w : worked junction (length lent) ≡ told (cycle j) = sym searched ∙ ap told (found_cycle j) in
-        let works = cycle_works j low in
-        let first = first_tried_range j in
-        let bounds = tried_bounds j low in
-        rw w
-        (record {
-          range = omega arith;
-          accepted = (works_file junction is (cycle j) (omega arith)).0 works.1;
-          least = λ t from below a. true≢false (sym ((works_file junction is t (omega arith)).1 a) ∙ cycle_least j t from below);
-          most = bounds.0;
-          fewest = bounds.1;
-          size = unfold plan_size in refl;
-          file = buffer_is passed three.2;
-        })

@@ -5,8 +5,8 @@ use Rattle.std.proofs.Math.Bool.{cond}
 use Rattle.std.specs.Prelude.{List, ◌≡◌, length, replicate}
 use Rattle.std.proofs.Math.Path.{refl, ap, fun_ext}
 use Rattle.laws.specs.Filled.{filled}
-use Rattle.laws.specs.Largest.{largest_same}
-use Rattle.laws.specs.Search.{first_same}
+use Rattle.laws.proofs.Largest.{largest_same}
+use Rattle.laws.proofs.Search.{first_same}
 use Rattle.limits.specs.Limits.{most_phases, no_cycle}
 use Rattle.counts.specs.Newest.{rank_flow}
 use Rattle.counts.specs.declared.Count.{Count}

@@ -1,24 +1,17 @@
 -- A length works exactly where the judge accepts its plan file.
-use Rattle.std.specs.Prelude.{ℕ, ◌-◌, ◌≤◌, ◌<◌, Bool, true, List, ◌↔◌, ◌≡◌, leb, ltb, length}
-use Rattle.std.proofs.Common.{zero-le, arith, sym, ◌∙◌, ltb-true, ltb-false, leb-true, leb-false, le-leb}
-use Rattle.laws.specs.Ranges.{Between}
-use Rattle.laws.specs.Search.{first_below, first_passes, first_fails}
+use Rattle.std.specs.Prelude.{ℕ, ◌≤◌, ◌<◌, Bool, true, List, ◌↔◌, ◌≡◌, leb, ltb}
+use Rattle.std.proofs.Common.{zero-le, arith, ltb-true, ltb-false, leb-true, leb-false, le-leb}
+use Rattle.laws.proofs.Search.{first_passes, first_fails}
+use Rattle.laws.specs.Search.{first_below}
 use Rattle.laws.specs.Tests.{by_test, both, both_left, both_right}
-use Rattle.limits.specs.Limits.{most_seconds}
 use Rattle.fields.specs.declared.Verdict.TheVariants.{Passed}
 use Rattle.junction_file.specs.Reading.{reading}
-use Rattle.junction_file.specs.TakenFile.{taken}
 use Rattle.phase_lengths.specs.Phases.{lost_time}
 use Rattle.phase_lengths.specs.declared.Phases.{Phases}
 use Rattle.phase_greens.specs.Greens.{sharing, green_at, first_below_one, gives_greens}
-use Rattle.junction_phases.specs.JunctionPhases.{phases_at}
-use Rattle.cycle_search.specs.lemmas.Lengths.{works_only}
-use Rattle.cycle_search.specs.Planning.{works}
 use Rattle.plan_judge.specs.Judgement.{plan_judgement, judgement}
-use Rattle.planner.specs.Planned.{works_accepted}
-use Rattle.demands.specs.Files.{plan_bytes, Accepted}
 
-gives_greens_means : (q : Phases) (t : ℕ) → (gives_greens q t ≡ true) ↔ ((lost_time q ≤ t) × ((i : ℕ) → i < q.count → 1 ≤ green_at q (sharing q t) i))
+pub gives_greens_means : (q : Phases) (t : ℕ) → (gives_greens q t ≡ true) ↔ ((lost_time q ≤ t) × ((i : ℕ) → i < q.count → 1 ≤ green_at q (sharing q t) i))
 unfolding gives_greens first_below_one
 gives_greens_means q t =
     let short : ℕ → Bool = λ i. ltb (green_at q (sharing q t) i) 1 in
@@ -35,21 +28,6 @@ gives_greens_means q t =
 
 module _ (junction : List ℕ) (is : (reading junction).verdict ≡ Passed) where
   -- of a file that is taken, the judge's answer is that on the plan
-  judged_plan : (plan : List ℕ) → judgement junction plan ≡ plan_judgement (reading junction).junction plan
+  pub judged_plan : (plan : List ℕ) → judgement junction plan ≡ plan_judgement (reading junction).junction plan
   unfolding judgement
   judged_plan plan = rw is
-
-  pub works_file : (t : ℕ) → Between 1 most_seconds t → (works (reading junction).junction t ≡ true) ↔ Accepted junction t
-  works_file t range =
-      let j = (reading junction).junction in (
-        λ e. let p = (works_only j t e).0 in
-            let means = (gives_greens_means (phases_at j t) t).0 p in
-            record {
-              not_below = means.0;
-              greens = means.1;
-              accepted = judged_plan (plan_bytes junction t) ∙ (works_accepted j (taken junction is) t range p).0 e;
-            },
-        λ a. let judged : plan_judgement j (plan_bytes junction t) ≡ Passed = sym (judged_plan (plan_bytes junction t)) ∙ a.accepted in
-            let p = (gives_greens_means (phases_at j t) t).1 (a.not_below, a.greens) in
-            (works_accepted j (taken junction is) t range p).1 judged,
-      )

@@ -1,7 +1,9 @@
 -- Comparisons of squares, and a fraction just above a root.
 use Rattle.std.specs.Prelude.{ℕ, ◌+◌, ◌-◌, ◌*◌, ◌≤◌, ◌<◌, Bool, ◌≡◌, leb}
-use Rattle.std.proofs.Common.{zero-le, eq-zero-or-pos, eq-or-lt_of_le, mul-le-mul_left, sub-add_cancel, arith, ⊎_elim, sym, ◌∙◌, ap, subst, le-leb, leb-true, leb-false}
-use Rattle.laws.specs.Search.{first_below, first_range, first_passes, first_fails}
+use Rattle.std.proofs.Common.{zero-le, eq-zero-or-pos, eq-or-lt_of_le, mul-le-mul_left, sub-add_cancel, arith, ⊎_elim, sym, ◌∙◌, ap, subst}
+use Rattle.std.proofs.Common.{le-leb, leb-true, leb-false}
+use Rattle.laws.proofs.Search.{first_range, first_passes, first_fails}
+use Rattle.laws.specs.Search.{first_below}
 use Rattle.exact_times.specs.lemmas.Squares.{square_multiples}
 
 -- a² k ≤ b² k, so a ≤ b

@@ -15,7 +15,8 @@ use Rattle.junction.specs.declared.Reading.{Reading}
 use Rattle.junction_places.specs.Blank.{blank}
 use Rattle.junction_questions.specs.Questions.{field_verdict, whole_verdict}
 use Rattle.junction_file.specs.Reading.{with_field, after_field, read_field, at_end, read_from, reading}
-use Rattle.junction_file.specs.lemmas.Rest.{Rest, rest_begins, rest_turns, rest_ends}
+use Rattle.junction_file.specs.lemmas.Rest.{Rest}
+use Rattle.junction_file.proofs.lemmas.Rest.{rest_begins, rest_turns, rest_ends}
 use Rattle.junction_description.specs.File.{place}
 
 -- the first i fields pass, and say j

@@ -1,8 +1,8 @@
 -- What the questions of a taken file's fields, and of the whole, say of its junction, step by step.
 use Prim.Native.Nat.{ℕ, zero, suc, ◌+◌, ◌-◌, ◌≤◌, ◌<◌, zero-le}
-use Rattle.std.proofs.Common.{pos_of_ne-zero, add-zero, true≢false, inl, inr, sym, ◌∙◌, ap, get_or-set_same, get_or-set_other}
+use Rattle.std.proofs.Common.{pos_of_ne-zero, add-zero, true≢false, inl, inr, sym, ◌∙◌, get_or-set_same, get_or-set_other}
 use native.Mathlib.Omega.{arith}
-use Rattle.std.specs.Prelude.{Bool, false, not, List, ◌↔◌, ◌⊎◌, ◌≡◌, leb, ltb, eqb, length, get_or, set}
+use Rattle.std.specs.Prelude.{Bool, false, not, List, ◌↔◌, ◌≡◌, leb, ltb, eqb, length, get_or, set}
 use Rattle.std.proofs.Math.Bool.{true, and-eq-true_iff}
 use Rattle.std.proofs.lemmas.Bool.{false≢true}
 use Rattle.std.proofs.Math.Logic.{⊎_elim}
@@ -10,11 +10,12 @@ use Rattle.std.proofs.Math.Path.{refl}
 use Rattle.std.proofs.Math.ListN.{length-set}
 use borrow.Author.Tests.{leb-true, leb-false, ltb-true, ltb-false, eqb-true, eqb-false, lt-ltb, not-true, not-false}
 use Rattle.laws.specs.Ranges.{Between, every_of, every_at}
-use Rattle.laws.specs.Search.{first_below, first_range, first_passes, first_fails}
+use Rattle.laws.proofs.Search.{first_range, first_passes, first_fails}
+use Rattle.laws.specs.Search.{first_below}
 use Rattle.laws.specs.Tests.{by_test, either}
-use Rattle.limits.specs.Limits.{least_period, greatest_period, most_bytes, most_phases}
-use Rattle.fields.specs.Bytes.{byte_at, number_at, byte_in, number_in, field_end}
-use Rattle.fields.specs.Verdict.{is_refused, ask_passed}
+use Rattle.limits.specs.Limits.{least_period, greatest_period, most_phases}
+use Rattle.fields.specs.Bytes.{byte_at, number_at, byte_in, number_in}
+use Rattle.fields.specs.Verdict.{ask_passed}
 use Rattle.fields.specs.declared.Verdict.TheVariants.{Passed}
 use Rattle.counts.specs.declared.Count.{Count}
 use Rattle.junction.specs.declared.Junction.{Junction}
@@ -31,8 +32,7 @@ use Rattle.junction_places.specs.Places.{stream_at, count_at, zone_at, stream_nu
 use Rattle.streams.specs.Kinds.{is_car}
 use Rattle.junction_places.specs.Ranks.{newest_rank}
 use Rattle.junction_file.specs.Chosen.{chosen}
-use Rattle.junction_file.specs.Reading.{with_heading, with_stream, with_zone, with_count, with_field, after_field, read_field, at_end, read_from, reading}
-use Rattle.junction_file.specs.lemmas.Rest.{passed_field}
+use Rattle.junction_file.specs.Reading.{with_heading, with_stream, with_zone, with_count, with_field, after_field, read_field}
 use Rattle.junction_file.specs.Taken.{PedestrianRanges, StreamInRange, SideRight, ZoneRight, CountRight, FieldsRight, UsedPhase, PhasesRight, HasCar, HasFlow}
 
 -- question 5 of a heading
@@ -302,32 +302,13 @@ blank_right =
     }
 
 -- an answer that refuses nothing has a junction with a property, and it passes the questions of the whole
-abbrev Reached : (Junction → Type 0) → ℕ → Reading → Type 0
+abbrev pub Reached : (Junction → Type 0) → ℕ → Reading → Type 0
 Reached P size r = r.verdict ≡ Passed → P r.junction × (whole_verdict size r.junction ≡ Passed)
 
 module _ (P : Junction → Type 0) (step : (tag : ℕ) (b : List ℕ) (j : Junction) → BodyPassed tag b j → P j → P (with_field tag b j)) where
-  field_reached : (s : List ℕ) (at : ℕ) (j : Junction) → P j → field_verdict s at j ≡ Passed → P (read_field s at j).junction
+  pub field_reached : (s : List ℕ) (at : ℕ) (j : Junction) → P j → field_verdict s at j ≡ Passed → P (read_field s at j).junction
   unfolding read_field after_field
   field_reached s at j p e = rw e (step _ _ j (field_passed s at j e).1 p)
-
-  from_reached : (fuel : ℕ) (s : List ℕ) (at : ℕ) (j : Junction) → P j → Reached P (length s) (read_from fuel s at j)
-  unfolding read_from at_end
-  from_reached zero s at j p = λ e. (p, e)
-  from_reached (suc fuel) s at j p =
-      let later = from_reached fuel s (field_end s at) (read_field s at j).junction in
-      by_test (ltb at (length s))
-      (λ l. by_test (is_refused (read_field s at j).verdict)
-      (λ e. rw (l, e) (λ v. absurd (false≢true (rw v at e))))
-      (λ e. rw (l, e) (later (field_reached s at j p (passed_field s at j e)))))
-      (λ l. rw l (λ e. (p, e)))
-
-  -- what holds before the first field, and after a field that passes where it held before that field, holds of a junction that is taken
-  pub by_fields : P blank → (s : List ℕ) → (reading s).verdict ≡ Passed
-      → P (reading s).junction × (whole_verdict (length s) (reading s).junction ≡ Passed)
-  unfolding reading
-  by_fields p s =
-      by_test (leb (length s) most_bytes) (λ l. rw l (from_reached (length s) s 0 blank p))
-      (λ l. rw l (λ v. absurd (true≢false (ap is_refused v))))
 
 module _ (j : Junction) where
   pub used_phase : (p : ℕ) → (phase_used j p ≡ true) ↔ UsedPhase j p

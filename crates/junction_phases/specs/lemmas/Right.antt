@@ -1,28 +1,22 @@
 -- The phases of a taken junction are as the rules of greens ask.
-use Rattle.std.specs.Prelude.{ℕ, ◌+◌, ◌-◌, ◌≤◌, ◌<◌, false, ◌≡◌, refl, leb, ltb, eqb}
-use Rattle.std.proofs.Common.{zero-le, le_refl, le_antisymm, true≢false, sym, ◌∙◌}
-use Rattle.std.proofs.Math.Nat.{le-max_left, add-sub_cancel}
+use Rattle.std.specs.Prelude.{ℕ, ◌+◌, ◌≤◌, ◌<◌, false, ◌≡◌, refl, leb}
+use Rattle.std.proofs.Common.{zero-le, le_antisymm, true≢false, sym, ◌∙◌}
 use native.Mathlib.Omega.{arith}
 use Rattle.std.proofs.Math.Bool.{true}
 use Rattle.std.proofs.lemmas.Bool.{false≢true}
-use borrow.Author.Tests.{leb-true, leb-false, ltb-true, ltb-false, eq-eqb}
-use Rattle.laws.specs.Ranges.{Between}
-use Rattle.laws.specs.Sums.{sum_part}
-use Rattle.laws.specs.Tests.{by_test, both}
+use borrow.Author.Tests.{leb-true, leb-false}
+use Rattle.laws.specs.Tests.{by_test}
 use Rattle.streams.specs.declared.CarFigures.{CarFigures}
 use Rattle.streams.specs.declared.Kind.{Kind}
 use Rattle.streams.specs.declared.Kind.TheVariants.{Car, Tram, Pedestrian, Cyclist, Island}
 use Rattle.junction.specs.declared.Junction.{Junction}
-use Rattle.junction_places.specs.Places.{stream_at, stream_numbered, numbered_at}
+use Rattle.junction_places.specs.Places.{stream_at}
 use Rattle.streams.specs.Kinds.{is_car}
 use Rattle.junction_file.specs.Taken.{Taken}
 use Rattle.junction_figures.specs.Figures.{stream_flow, stream_ratio}
 use Rattle.junction_figures.specs.Positive.{stream_ratio_least}
-use Rattle.phase_greens.specs.Fills.{Right}
-use Rattle.phase_lengths.specs.Phases.{phase, ratio_sum}
-use Rattle.junction_phases.specs.JunctionPhases.{is_in, car_in, has_cars, phase_ratio, phase_count, intergreen, phase_at, phases_at}
-use Rattle.junction_phases.specs.Meaning.{ratio_largest, cars_none, count_phases}
-use Rattle.junction_phases.specs.lemmas.Placed.{few_phases, phase_placed, phase_empty}
+use Rattle.junction_phases.specs.JunctionPhases.{has_cars, phase_ratio}
+use Rattle.junction_phases.specs.Meaning.{ratio_largest, cars_none}
 
 -- the figures of a car
 car_figures : (k : Kind) → is_car k ≡ true → (c : CarFigures) × (k ≡ Car c)
@@ -37,17 +31,6 @@ module _ (j : Junction) where
   pub no_cars : (f : ℕ) → has_cars j f ≡ false → phase_ratio j f ≡ 0
   no_cars f e = le_antisymm ((ratio_largest j f 0).1 (λ n r car. absurd (true≢false (sym car ∙ (cars_none j f).0 e n r)))) zero-le
 
-  no_cars_at : (t i : ℕ) → (phase (phases_at j t) i).cars ≡ false → (phase (phases_at j t) i).ratio ≡ 0
-  unfolding phase_at
-  no_cars_at t i =
-      by_test (ltb i (phase_count j)) (λ e. rw (phase_placed j t i (ltb-true _ _ e)) (no_cars (i + 1)))
-      (λ e. rw (phase_empty j t i (ltb-false _ _ e)) (λ no. refl))
-
-  -- M is at least 1
-  between_some : (t i : ℕ) → i < phase_count j → 1 ≤ (phase (phases_at j t) i).intergreen
-  unfolding phase_at intergreen
-  between_some t i low = rw (phase_placed j t i low) (le-max_left 1 _)
-
   module _ (t : Taken j) where
     -- y of a car is at least 1, its flow being so
     pub ratio_some : (i : ℕ) → i < j.held.streams → is_car (stream_at j i).kind ≡ true → 1 ≤ stream_ratio j (i + 1)
@@ -57,30 +40,3 @@ module _ (j : Junction) where
         by_test (leb 1 (stream_ratio j (i + 1))) (λ some. leb-true _ _ some)
         (λ no. let zero = (stream_ratio_least j t i low c.0 c.1 0).0 (omega (arith, leb-false 1 (stream_ratio j (i + 1)) no)) in
         absurd (omega (arith, zero, (t.flows i low e).flow)))
-
-    -- Y is not 0: the phase of a car has at least its y
-    sum_some : (cycle : ℕ) → 0 < ratio_sum (phases_at j cycle)
-    unfolding ratio_sum phase_at is_in car_in
-    sum_some cycle =
-        let n = t.car.place + 1 in
-        let f = (stream_numbered j n).phase in
-        let exists : Between 1 j.held.streams n = omega (arith, t.car.held) in
-        let in_range = count_phases j t n exists in
-        let is-car : is_car (stream_numbered j n).kind ≡ true = rw (numbered_at j n exists.0, add-sub_cancel t.car.place 1) t.car.car in
-        let y = (ratio_largest j f (phase_ratio j f)).0 (le_refl _) n exists (both (eqb f f) _ (eq-eqb f f refl) is-car) in
-        let there : f - 1 + 1 ≡ f = omega arith in
-        let placed : (phase (phases_at j cycle) (f - 1)).ratio ≡ phase_ratio j f = rw (phase_placed j cycle (f - 1) (omega arith), there) in
-        let part = sum_part (λ i. (phase (phases_at j cycle) i).ratio) 6 (f - 1) (omega (arith, few_phases j)) in
-        omega (arith, ratio_some t.car.place t.car.held t.car.car)
-
--- at any cycle
-pub phases_right_lem : (j : Junction) → Taken j → (t : ℕ) → Right (phases_at j t)
-unfolding phases_at
-phases_right_lem j taken t =
-    record {
-      few = few_phases j;
-      plain = no_cars_at j t;
-      between = between_some j t;
-      none = phase_empty j t;
-      some = sum_some j taken t;
-    }

@@ -7,7 +7,8 @@ use Rattle.std.proofs.Common.{◌∙◌, eqb-true}
 use Rattle.std.proofs.Math.Path.{ap}
 use Rattle.limits.specs.Limits.{most_phases}
 use Rattle.laws.specs.ByNumber.{ByNumber, by_number_same, raised}
-use Rattle.laws.specs.Largest.{largest_of, largest_same}
+use Rattle.laws.proofs.Largest.{largest_same}
+use Rattle.laws.specs.Largest.{largest_of}
 use Rattle.laws.specs.Ranges.{Between}
 use Rattle.laws.specs.Tests.{by_test}
 use Rattle.streams.specs.declared.Stream.{Stream}

@@ -3,13 +3,15 @@ use Rattle.std.specs.Prelude.{ℕ, ◌+◌, ◌≤◌, ◌<◌, max, true, ◌&&
 use Rattle.std.proofs.Common.{zero-le, le_refl, le_antisymm, arith}
 use Rattle.std.proofs.Math.Nat.{le_trans, le-max_left, le-max_right, max-le, add-sub_cancel}
 use Rattle.std.proofs.Math.Dec.{eqb}
-use Rattle.laws.specs.Largest.{largest_of, largest_at_most}
+use Rattle.laws.proofs.Largest.{largest_at_most}
+use Rattle.laws.specs.Largest.{largest_of}
 use Rattle.laws.specs.Ranges.{Between}
 use Rattle.laws.specs.Tests.{by_test, both, both_left, both_right, two_same}
 use Rattle.junction.specs.declared.Junction.{Junction}
 use Rattle.junction_places.specs.Places.{zone_at, zone_numbered, zone_numbered_at}
 use Rattle.junction_file.specs.Taken.{Taken}
-use Rattle.junction_figures.specs.Figures.{forward, backward, zone_entry, pair_entry, pair_least}
+use Rattle.junction_figures.specs.Figures.{forward, backward, zone_entry, pair_entry}
+use Rattle.junction_figures.proofs.Figures.{pair_least}
 use Rattle.junction_phases.specs.JunctionPhases.{is_in, entry_between, phase_entry}
 use Rattle.junction_phases.specs.Meaning.{only_at_most, entry_largest}
 

@@ -4,7 +4,8 @@ use Rattle.std.proofs.Common.{zero-le, sym, ◌∙◌, length-set, get_or-set_sa
 use Rattle.std.proofs.Math.Nat.{max-eq_left}
 use Rattle.std.proofs.lemmas.List.{length-replicate, get_or-replicate}
 use Rattle.std.proofs.lemmas.Bool.{eqb-false}
-use Rattle.laws.specs.Largest.{largest_of, largest_none, largest_next}
+use Rattle.laws.proofs.Largest.{largest_none, largest_next}
+use Rattle.laws.specs.Largest.{largest_of}
 use Rattle.laws.specs.Tests.{by_test}
 use Rattle.counts.specs.Newest.{usable, rank}
 use Rattle.junction.specs.declared.Junction.{Junction}

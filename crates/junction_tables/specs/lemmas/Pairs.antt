@@ -1,60 +1,29 @@
 -- The entries of every pair by one pass over the zones: a zone raises those of its pair, in both directions, and no others.
-use Rattle.std.specs.Prelude.{ℕ, ◌+◌, ◌-◌, ◌<◌, max, false, ◌&&◌, List, ◌≡◌, eqb, length, get_or, replicate}
-use Rattle.std.proofs.Common.{zero-le, arith, true≢false, sym, ◌∙◌, ap, length-set, eq-eqb, ne_eqb}
+use Rattle.std.specs.Prelude.{ℕ, ◌<◌, max, false, ◌&&◌, ◌≡◌, eqb, get_or}
+use Rattle.std.proofs.Common.{zero-le, arith, ne_eqb}
 use Rattle.std.proofs.Math.Nat.{max-eq_left}
-use Rattle.std.proofs.lemmas.List.{length-replicate, get_or-replicate}
-use Rattle.laws.specs.Largest.{largest_of, largest_none, largest_next}
-use Rattle.laws.specs.Raised.{raised_at}
+use Rattle.laws.specs.Largest.{largest_of}
 use Rattle.laws.specs.Ranges.{Between}
-use Rattle.laws.specs.Tests.{by_test, both, two_same}
-use Rattle.times.specs.Entry.{entry}
+use Rattle.laws.specs.Tests.{by_test, two_same}
 use Rattle.limits.specs.Limits.{most_streams}
 use Rattle.junction.specs.declared.Junction.{Junction}
 use Rattle.junction.specs.declared.Side.{Side}
 use Rattle.junction.specs.declared.Zone.{Zone}
-use Rattle.junction_places.specs.Blank.{no_stream, no_zone}
-use Rattle.junction_places.specs.Places.{stream_numbered, zone_at}
+use Rattle.junction_places.specs.Blank.{no_zone}
+use Rattle.junction_places.specs.Places.{zone_at}
 use Rattle.junction_file.specs.Taken.{SideRight, ZoneRight, Taken}
-use Rattle.junction_file.specs.lemmas.Places.{number_place, zone_place, zone_right}
-use Rattle.junction_figures.specs.Figures.{zone_entry, pair_entry}
-use Rattle.junction_figures.specs.Directions.{one_direction, both_directions}
-use Rattle.junction_tables.specs.Pairs.{pairs, pair_place, ByPair, raised_to, conflict_by}
-use Rattle.junction_tables.specs.Tables.{conflict_of}
-
-by_pair_same : (number other : ℕ → ℕ → ℕ) (l : List ℕ) → ByPair number l → ((n m : ℕ) → number n m ≡ other n m) → ByPair other l
-by_pair_same number other l by same = record { long = by.long; each = λ n m p q. by.each n m p q ∙ same n m }
-
--- each pair has a place of its own
-own_place : (a b n m : ℕ) → Between 1 most_streams a → Between 1 most_streams b → Between 1 most_streams n → Between 1 most_streams m
-    → eqb (pair_place a b) (pair_place n m) ≡ (eqb a n && eqb b m)
-own_place a b n m ra rb rn rm =
-    by_test (eqb a n && eqb b m)
-    (λ e. let is = two_same a b n m e in rw e (eq-eqb (pair_place a b) (pair_place n m) (omega arith)))
-    (λ e.
-    rw e (ne_eqb (pair_place a b) (pair_place n m)
-    (λ s.
-    let first : a ≡ n = omega arith in
-    let second : b ≡ m = omega arith in
-    true≢false (sym (both (eqb a n) (eqb b m) (eq-eqb a n first) (eq-eqb b m second)) ∙ e))))
+use Rattle.junction_file.specs.lemmas.Places.{zone_right}
+use Rattle.junction_figures.specs.Figures.{zone_entry}
+use Rattle.junction_figures.specs.Directions.{one_direction}
+use Rattle.junction_figures.proofs.Directions.{both_directions}
 
 module _ (j : Junction) where
   -- the entries over the first k zones
   abbrev pub entries_over : ℕ → ℕ → ℕ → ℕ
   entries_over k n m = largest_of (λ i. zone_entry j n m (zone_at j i)) k
 
-  pub entries_none : ByPair (entries_over 0) (replicate pairs 0)
-  entries_none =
-      record {
-        long = length-replicate {A = ℕ} pairs 0;
-        each = λ n m p q. get_or-replicate {A = ℕ} pairs (pair_place n m) 0 0 (omega arith) ∙ sym (largest_none _);
-      }
-
-  pub entries_whole : (l : List ℕ) → ByPair (entries_over j.held.zones) l → ByPair (pair_entry j) l
-  unfolding pair_entry
-  entries_whole l by = by
-
   -- a number raised in one direction and then in the other is raised by the zone's entry
-  two_directions : (z : Zone) → ZoneRight j z → (n m most : ℕ)
+  pub two_directions : (z : Zone) → ZoneRight j z → (n m most : ℕ)
       → max (max most (one_direction j n m z.a z.b 0)) (one_direction j n m z.b z.a 0) ≡ max most (zone_entry j n m z)
   two_directions z right n m most =
       rw (both_directions j n m z)
@@ -67,54 +36,10 @@ module _ (j : Junction) where
 
   module _ (taken : Taken j) where
     -- the stream of a side has a number from 1 to 16
-    placed : (x : Side) → SideRight j x → Between 1 most_streams x.stream
+    pub placed : (x : Side) → SideRight j x → Between 1 most_streams x.stream
     placed x right = let few = taken.fields.few_streams in omega (arith, right.existing)
 
     pub zone_ends : (i : ℕ) → i < j.held.zones
         → let z = get_or j.zones i no_zone in
         Between 1 most_streams z.a.stream × Between 1 most_streams z.b.stream
     zone_ends i low = let right = zone_right j taken i low in (placed _ right.a, placed _ right.b)
-
-    -- the conflict of a zone by the entries of every pair
-    pub zone_conflict : (l : List ℕ) → ByPair (pair_entry j) l → (i : ℕ) → i < j.held.zones
-        → let z = get_or j.zones i no_zone in
-        conflict_by l z.a.stream z.b.stream ≡ conflict_of j (zone_at j i)
-    zone_conflict l by i low =
-        let a = (get_or j.zones i no_zone).a.stream in
-        let b = (get_or j.zones i no_zone).b.stream in
-        let ends = zone_ends i low in
-        simp (by.each a b ends.0 ends.1, by.each b a ends.1 ends.0) (ap (conflict_of j) (zone_place j taken i low))
-
-    -- from the stream of one side to that of the other
-    raised_direction : (number : ℕ → ℕ → ℕ) (l : List ℕ) → ByPair number l → (x y : Side) → SideRight j x → SideRight j y
-        → ByPair (λ n m. max (number n m) (one_direction j n m x y 0))
-        (raised_to l x.stream y.stream (entry (stream_numbered j x.stream) (stream_numbered j y.stream) x.clearing y.reaching))
-    raised_direction number l before x y rx ry =
-        let from = placed x rx in
-        let to = placed y ry in
-        let here = pair_place x.stream y.stream in
-        let low : here < length l = rw before.long (omega arith) in
-        record {
-          long = length-set l here _ ∙ before.long;
-          each = λ n m rn rm.
-              raised_at l here (pair_place n m) _ low
-              ∙ rw (before.each n m rn rm, own_place x.stream y.stream n m from to rn rm)
-              (by_test (eqb x.stream n && eqb y.stream m)
-              (λ e. let is = two_same x.stream y.stream n m e in rw (e, is.0, is.1))
-              (λ e. rw e));
-        }
-
-    -- the zone at a place raises both entries of its pair
-    pub zone_raises : (i : ℕ) → i < j.held.zones → (l : List ℕ) → ByPair (entries_over i) l
-        → let z = get_or j.zones i no_zone in
-        let first = get_or j.streams (z.a.stream - 1) no_stream in
-        let second = get_or j.streams (z.b.stream - 1) no_stream in
-        ByPair (entries_over (i + 1))
-        (raised_to (raised_to l z.a.stream z.b.stream (entry first second z.a.clearing z.b.reaching))
-        z.b.stream z.a.stream (entry second first z.b.clearing z.a.reaching))
-    zone_raises i low l before =
-        let z = get_or j.zones i no_zone in
-        let right = zone_right j taken i low in
-        rw (number_place j taken z.a.stream right.a.existing, number_place j taken z.b.stream right.b.existing)
-        (by_pair_same _ _ _ (raised_direction _ _ (raised_direction _ l before z.a z.b right.a right.b) z.b z.a right.b right.a)
-        (λ n m. two_directions z right n m _ ∙ rw (largest_next (λ k. zone_entry j n m (zone_at j k)) i, zone_place j taken i low)))

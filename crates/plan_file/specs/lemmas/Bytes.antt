@@ -27,7 +27,8 @@ plan_byte p k =
     cond (ltb k 5) (cycle_byte p.cycle k) (green_byte (green_of p n) n ((k - 5) % 8))
 
 -- the byte at place k of the fields 12, the first of them stream n's
-greens_byte : (p : Plan) (streams n k : ℕ) → k < 8 * streams → get_or (green_fields p streams n) k 0 ≡ green_byte (green_of p (n + k / 8)) (n + k / 8) (k % 8)
+greens_byte : (p : Plan) (streams n k : ℕ) → k < 8 * streams
+    → get_or (green_fields p streams n) k 0 ≡ green_byte (green_of p (n + k / 8)) (n + k / 8) (k % 8)
 unfolding green_fields green_byte
 greens_byte p zero n k h = absurd (omega arith)
 greens_byte p (suc streams) n k h =

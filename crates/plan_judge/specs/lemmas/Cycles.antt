@@ -3,7 +3,7 @@
 use Rattle.std.specs.Prelude.{ℕ, suc, ◌+◌, ◌-◌, ◌*◌, ◌≤◌, ◌<◌, ◌⊎◌, ◌≡◌, leb}
 use Rattle.std.proofs.Common.{mul-le-mul_right, suc-mul, arith, inl, inr, leb-true, leb-false}
 use Rattle.laws.specs.Tests.{by_test}
-use Rattle.plan_rules.specs.Off.{off_after, off_before}
+use Rattle.plan_rules.proofs.OffLaws.{off_after, off_before}
 use Rattle.plan_rules.specs.Rules.{off}
 
 -- among two cycles, the pair in which b's green is the next after a's, and the pair in which a's is the next after b's

@@ -1,10 +1,9 @@
 -- The rules at a place of a taken junction's streams and zones, by what stands at that place: what a loop over them asks.
-use Rattle.std.specs.Prelude.{ℕ, ◌+◌, ◌-◌, ◌<◌, ◌≡◌, get_or}
+use Rattle.std.specs.Prelude.{ℕ, ◌+◌, ◌<◌, ◌≡◌, get_or}
 use native.Mathlib.Omega.{arith}
 use Rattle.laws.specs.Ranges.{Between}
 use Rattle.junction.specs.declared.Junction.{Junction}
 use Rattle.junction_places.specs.Blank.{no_stream}
-use Rattle.junction_places.specs.Places.{zone_at, zone_numbered_at}
 use Rattle.junction_file.specs.Taken.{Taken}
 use Rattle.junction_file.specs.lemmas.Places.{stream_place_lem}
 use Rattle.junction_tables.specs.Tables.{no_conflict, conflicts_of, no_load, loads_of}
@@ -13,9 +12,9 @@ use Rattle.junction_tables.specs.declared.Conflicts.{Conflicts}
 use Rattle.junction_tables.specs.declared.Loads.{Loads}
 use Rattle.junction_tables.specs.lemmas.Places.{load_place, conflict_place}
 use Rattle.plan_file.specs.Plans.{no_green}
-use Rattle.plan_file.specs.WellFormed.{green_numbered, green_place}
+use Rattle.plan_file.specs.WellFormed.{green_place}
 use Rattle.plan_file.specs.declared.Plan.{Plan}
-use Rattle.plan_rules.specs.Rules.{need_met_by, need_met, capacity_met_by, capacity_met, zone_clear, zone_met}
+use Rattle.plan_rules.specs.Rules.{need_met_by, need_met, capacity_met_by, capacity_met}
 
 -- the streams of a conflict exist
 pub record Ends (j : Junction) (c : Conflict) : Type 0 where
@@ -39,14 +38,3 @@ module _ (j : Junction) (taken : Taken j) (p : Plan) (i : ℕ) where
     conflict_ends =
         let right = taken.fields.zones i low in
         rw (e, conflict_place j taken i low) (record { a = right.a.existing; b = right.b.existing })
-
-    pub zone_met_lem : let c = get_or conflicts.of i no_conflict in
-        zone_clear p.cycle (get_or p.greens (c.a - 1) no_green) (get_or p.greens (c.b - 1) no_green) c.atob c.btoa ≡ zone_met j p (i + 1)
-    unfolding zone_met
-    zone_met_lem =
-        let there : i + 1 - 1 ≡ i = omega arith in
-        let right = taken.fields.zones i low in
-        let few = taken.fields.few_streams in
-        let a = green_numbered p (zone_at j i).a.stream (omega (arith, right.a.existing)) in
-        let b = green_numbered p (zone_at j i).b.stream (omega (arith, right.b.existing)) in
-        rw (e, conflict_place j taken i low, zone_numbered_at j (i + 1) (omega arith), there, a, b)

@@ -1,6 +1,7 @@
 -- Numbers of f64 that are finite and above 0: whole numbers, quotients and sums, and how each grows with its parts.
 use Rattle.std.specs.Prelude.{ℕ, ◌+◌, ◌*◌, ◌^◌, ◌≤◌, ◌<◌, Bool, false, true, ◌≡◌, refl, T, Float}
-use Rattle.std.proofs.Common.{lt_of_lt_of_le, add-le-add, mul-le-mul, mul-le-mul_right, mul_assoc, mul_comm, mul_left_comm, mul-one, mul-pos, add-mul, arith, sym, ◌∙◌, ap, ltb→lt, lit≤, pow_mono, shl_lt, ne_eqb}
+use Rattle.std.proofs.Common.{lt_of_lt_of_le, add-le-add, mul-le-mul, mul-le-mul_right, mul_assoc, mul_comm, mul_left_comm, mul-one, mul-pos}
+use Rattle.std.proofs.Common.{add-mul, arith, sym, ◌∙◌, ap, ltb→lt, lit≤, pow_mono, shl_lt, ne_eqb}
 use Rattle.std.specs.Float.{nan, inf, fin, binary64}
 use Rattle.std.specs.Float.Ieee.{round, sum, add, div, le, of_int}
 use Rattle.std.specs.Float.Ieee.Exact.{HasValue, round_exact}

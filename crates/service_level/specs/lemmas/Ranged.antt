@@ -1,7 +1,8 @@
 -- Numbers of f64 known to lie between two others, both above 0; so they are finite and above 0 themselves. Products, quotients, sums and differences
 -- from 1 are again between two others.
 use Rattle.std.specs.Prelude.{ℕ, zero, suc, ◌-◌, ◌*◌, ◌%◌, ◌^◌, ◌≤◌, ◌<◌, false, true, ◌&&◌, ◌≡◌, T, leb, ltb, eqb, pos, negsuc, Float}
-use Rattle.std.proofs.Common.{le_refl, le_of_lt, le_trans, mul-le-mul, mul-le-mul_left, mul-one, arith, subst, ltb→lt, lit≤, pow_pos, pow_mono, leb-true, leb-false, le-ltb}
+use Rattle.std.proofs.Common.{le_refl, le_of_lt, le_trans, mul-le-mul, mul-le-mul_left, mul-one, arith, subst, ltb→lt, lit≤, pow_pos, pow_mono}
+use Rattle.std.proofs.Common.{leb-true, leb-false, le-ltb}
 use Rattle.std.proofs.Math.Nat.{one-mul}
 use Rattle.std.proofs.Math.Path.{refl}
 use Rattle.std.specs.Float.{nan, inf, fin}

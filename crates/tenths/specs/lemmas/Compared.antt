@@ -1,6 +1,7 @@
 -- Numbers of f64 compared with whole numbers: as fractions; in tenths rounded up; and how far above a whole number the next of f64 lies.
 use Prim.Native.Nat.{ℕ, zero, suc, ◌+◌, ◌*◌, ◌^◌, ◌≤◌, ◌<◌, zero-le}
-use Rattle.std.proofs.Common.{le_trans, le_of_eq, mul-one, mul_right_comm, mul-le-mul_left, mul-le-mul_right, le_of_mul-le-mul_right, arith, ◌∙◌, pow_pos, pow_mono}
+use Rattle.std.proofs.Common.{le_trans, le_of_eq, mul-one, mul_right_comm, mul-le-mul_left, mul-le-mul_right, le_of_mul-le-mul_right, arith, ◌∙◌}
+use Rattle.std.proofs.Common.{pow_pos, pow_mono}
 use Rattle.std.specs.Prelude.{true, false, ◌≡◌, T, leb, pos, negsuc, Float}
 use Rattle.std.proofs.Math.Path.{sym}
 use Rattle.std.specs.Float.{nan, inf, fin, binary64}
@@ -8,7 +9,7 @@ use Rattle.std.specs.Float.Ieee.{le, of_int, fits}
 use Rattle.std.specs.Float.Ieee.Order.{le_of_values}
 use Rattle.std.specs.Float.Ieee.Positive.{num, den, positive, den_pos, own_value, value→cross, le→cross, above_of_le}
 use borrow.Author.Tests.{leb-true, leb-false, le-leb}
-use Rattle.laws.specs.Search.{first_passes, first_fails}
+use Rattle.laws.proofs.Search.{first_passes, first_fails}
 use Rattle.laws.specs.Tests.{by_test}
 use Rattle.service_level.specs.Delays.{whole}
 use Rattle.service_level.specs.lemmas.Numbers.{is_true, is_false, whole_value, whole_positive}

@@ -1,0 +1,4 @@
+pub mod FileDays
+pub mod Long
+pub mod Refused
+pub mod ToldLaws

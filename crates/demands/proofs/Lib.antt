@@ -1,0 +1,4 @@
+pub mod Farther
+pub mod FirstDemand
+pub mod SecondDemand
+pub mod lemmas

@@ -1,0 +1,4 @@
+pub mod Exactly
+pub mod Flows
+pub mod OtherPeriods
+pub mod lemmas

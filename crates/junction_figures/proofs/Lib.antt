@@ -1,0 +1,4 @@
+pub mod Directions
+pub mod Exact
+pub mod Figures
+pub mod UncheckedLaws

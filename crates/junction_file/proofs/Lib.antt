@@ -1,0 +1,4 @@
+pub mod FileDays
+pub mod Numbers
+pub mod TakenFile
+pub mod lemmas

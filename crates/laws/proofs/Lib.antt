@@ -1,0 +1,4 @@
+pub mod ByNumber
+pub mod Largest
+pub mod Rounding
+pub mod Search

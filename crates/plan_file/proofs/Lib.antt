@@ -1,0 +1,5 @@
+pub mod Inverse
+pub mod Left
+pub mod Long
+pub mod Numbers
+pub mod WellFormed

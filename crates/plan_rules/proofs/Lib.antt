@@ -1,0 +1,2 @@
+pub mod OffLaws
+pub mod lemmas
