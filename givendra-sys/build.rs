@@ -7,6 +7,6 @@ fn main() {
     println!("cargo:rustc-link-search=native={}", folder.display());
     println!("cargo:rerun-if-changed={}", library.display());
     if !library.exists() {
-        println!("cargo:warning=no program that calls the library can be linked: run `rt staticlib givendra` first");
+        println!("cargo:warning=no program that calls the library can be linked: run `tools/make givendra` first");
     }
 }

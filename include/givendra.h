@@ -1,7 +1,7 @@
 /* Traffic-signal timing by the annex of Ordinance RD-02-21-2: judge a plan, work out a plan, shift a plan, ask for the annex's figures and for
  * delays, and work out portable signals for road works.
  *
- * For x86-64 Linux. `rt staticlib givendra` makes the archive target/staticlib/libgivendra.a; `tools/install PREFIX` installs header, archive and
+ * For x86-64 Linux. `tools/make givendra` makes the archive target/staticlib/libgivendra.a; `tools/install PREFIX` installs header, archive and
  * shared library, so that `pkg-config --cflags --libs givendra` says how to compile and link.
  *
  * Nothing is allocated, and nothing is kept between calls: any number of threads may call at once. A call takes less than GIVENDRA_STACK bytes

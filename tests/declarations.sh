@@ -1,6 +1,6 @@
 #!/bin/sh
-# Holds include/givendra.h and givendra-sys to the crate: the same structs, member by member, and the same functions, parameter by parameter. All
-# three are brought to Rust's words, a struct or a function to a line, without spaces.
+# Holds include/givendra.h and givendra-sys to the crates givendra and givendra_c: the same structs, member by member, and the same functions,
+# parameter by parameter. All three are brought to Rust's words, a struct or a function to a line, without spaces.
 cd "$(dirname "$0")/.." || exit 1
 work=$(mktemp -d) || exit 1
 trap 'rm -rf "$work"' EXIT
@@ -10,7 +10,8 @@ failed=0
 lines() { tr -d ' \n' | tr @ '\n' | sed 's/,)/)/' | sort; }
 
 # To C, a slice of the crate is a pointer and a length. An approach is a struct of the crate roadworks.
-awk '/^pub struct/, /^}/; /^pub extern "C" fn/, /->/' crates/givendra/src/lib.rt > "$work/library"
+awk '/^pub struct/, /^}/' crates/givendra/src/lib.rt > "$work/library"
+awk '/^pub extern "C" fn/, /->/' crates/givendra_c/src/lib.rt >> "$work/library"
 awk '/^#\[repr\(C\)\]$/, /^}/ { if (!/^#/) print }' crates/roadworks/src/lib.rt >> "$work/library"
 sed -E '
     s/^pub (extern "C" )?(fn|struct)/@\2/

@@ -49,7 +49,7 @@ same "the installed files" 0 "./bin/accepted
 same "the installed header" 0 '' cmp include/givendra.h "$prefix/include/givendra.h"
 same "pkg-config --modversion" 0 "$release" pkg-config --modversion givendra
 same "absolute paths for pkg-config" 1 '' sh -c 'grep -v ^prefix= "$1" | grep "[ =]/"' sh "$prefix/lib/pkgconfig/givendra.pc"
-same "the exported functions" 0 "$(sed -n 's/^pub extern "C" fn \([a-z0-9_]*\)(.*/\1/p' crates/givendra/src/lib.rt | LC_ALL=C sort)" \
+same "the exported functions" 0 "$(sed -n 's/^pub extern "C" fn \([a-z0-9_]*\)(.*/\1/p' crates/givendra_c/src/lib.rt | LC_ALL=C sort)" \
     sh -c 'nm -D --defined-only "$1" | cut -d " " -f 3 | LC_ALL=C sort' sh "$prefix/lib/libgivendra.so"
 
 # The C example in another folder, linked with the shared library and statically. pkg-config writes a backslash before a blank.

@@ -29,7 +29,7 @@ tests/declarations.sh || failed=1
 # The test calls every function of the crate.
 gcc -std=c99 -Iinclude -c -o "$work/header.o" tests/header.c || exit 1
 nm --undefined-only "$work/header.o" | grep -o 'givendra_.*' | sort > "$work/called"
-sed -n 's/^pub extern "C" fn \([a-z0-9_]*\)(.*/\1/p' crates/givendra/src/lib.rt | sort | diff - "$work/called" ||
+sed -n 's/^pub extern "C" fn \([a-z0-9_]*\)(.*/\1/p' crates/givendra_c/src/lib.rt | sort | diff - "$work/called" ||
     { echo "library: tests/header.c does not call these functions"; failed=1; }
 # Each is linked with a second file that takes the header in.
 echo '#include "givendra.h"' > "$work/second.c"

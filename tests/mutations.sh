@@ -3,7 +3,7 @@
 # of tests/mutations/ is one change: lines `FILES: SED-COMMANDS`, and lines `# refused: CRATE THEOREM` or `# printed: CRATE`. It is made in a copy of
 # the repository, and what it touches is proved again: each THEOREM must be among what is not accepted in its CRATE, every function of every
 # crate must be proved, and so must every crate that is not named; where CRATE is a program, what it prints must no longer be its file stdout. It
-# takes from 20 s to 4 minutes for each, so the test command does not run it; `rt check` comes first.
+# takes from 20 s to 4 minutes for each, so the test command does not run it; `rt all check` comes first.
 cd "$(dirname "$0")/.." || exit 1
 root=$PWD
 work=$(mktemp -d) || exit 1
@@ -26,24 +26,28 @@ applied() {
 # tried NAME: whether the change is refused where its file says.
 tried() {
     [ -f "$root/tests/mutations/$1" ] || { echo "mutations: no file tests/mutations/$1"; return 1; }
-    rm -rf "$work/copy"
-    mkdir "$work/copy" && cp -R crates crates.txt target "$work/copy" && cd "$work/copy" || return 1
-    applied "$1" || return 1
+    cd "$root" && rm -rf "$work/copy" && mkdir "$work/copy" && tar -cf - --exclude='crates/*/out' crates crates.txt | tar -xf - -C "$work/copy" || return 1
+    cd "$work/copy" && applied "$1" || return 1
     sed -n 's/^# refused: //p' "$root/tests/mutations/$1" > theorems
     sed -n 's/^# printed: //p' "$root/tests/mutations/$1" > programs
     [ -s theorems ] || [ -s programs ] || { echo "mutations: $1: names no theorem and no program"; return 1; }
-    crates=$(cut -d ' ' -f 1 theorems programs | sort -u)
-    rt check $crates > log 2>&1
-    for crate in $(sed -n 's/^rt: \([a-z_]*\) NOT PROVED (exit.*/\1/p' log); do
-        grep -q "^$crate " theorems || { echo "mutations: $1: $crate is not proved"; return 1; }
-        ! grep "^fn $crate::.*: not proved" "target/log/$crate.out" || { echo "mutations: $1: code and definition differ"; return 1; }
+    # What rt says of a crate is said after what it says of those below, as far as they are proved.
+    for crate in $(cut -d ' ' -f 1 theorems programs | sort -u); do
+        (cd "crates/$crate" && rt check) > "$crate.log" 2>&1
+        awk '/^crate / { sub(":", "", $2); crate = $2 } /^logic=not-proved/ { print crate; said = 1 } /^logic=/ { crate = "" }
+            END { if (crate != "") print crate }' "$crate.log" > refused
+        while read -r other; do
+            grep -q "^$other " theorems || { echo "mutations: $1: $other is not proved"; return 1; }
+        done < refused
+        ! grep '^fn .*: \(not proved\|no proof\|could not tell\)' "$crate.log" || { echo "mutations: $1: code and definition differ"; return 1; }
     done
     while read -r crate name; do
-        grep -q "error: \`$name\`" "target/log/$crate.out" || { echo "mutations: $1: $crate does not refuse it at $name"; return 1; }
+        grep -q -e "error: \`$name\`" -e "not checked: \(.* \)\{0,1\}$name\($\|[ ,]\)" "$crate.log" || { echo "mutations: $1: $crate does not refuse it at $name"; return 1; }
         echo "mutations: $1: refused by $name of $crate"
     done < theorems
     while read -r crate; do
-        grep -q "^rt: $crate: what the program wrote is not what its file 'stdout' has" log || { echo "mutations: $1: $crate prints the same"; return 1; }
+        (cd "crates/$crate" && rt run 2> "../../$crate.log" < /dev/null) > printed && ! cmp -s printed "crates/$crate/stdout" ||
+            { echo "mutations: $1: $crate prints the same"; return 1; }
         echo "mutations: $1: refused by what $crate prints"
     done < programs
 }

@@ -1,10 +1,10 @@
 #!/bin/sh
-# Runs the programs judge, plan, shift, delay, portable and intergreens on files and numbers, and compares what they write with what they should. What rt has proved and
-# has not changed since is not proved again.
+# Runs the programs judge, plan, shift, delay, portable and intergreens on files and numbers, and compares what they write with what they
+# should. tools/make makes them: what rt has proved and has not changed since is not proved again.
 cd "$(dirname "$0")/.." || exit 1
 work=$(mktemp -d) || exit 1
 trap 'rm -rf "$work"' EXIT
-rt check judge plan shift delay portable intergreens > "$work/log" 2>&1 || { tail -n 20 "$work/log"; exit 1; }
+tools/make judge plan shift delay portable intergreens || exit 1
 failed=0
 
 # same NAME EXPECTED-OUTPUT EXPECTED-ERROR COMMAND..: compares standard output and standard error.
@@ -112,6 +112,7 @@ printf 'cycle 50\n1 0 35\n' > "$work/text"
 head -c 1048576 /dev/zero > "$work/megabyte"
 long=$(printf '%05000d' 0)
 component=$(printf '%0256d' 0)
+latin=$(printf 'k\366ln')
 for program in plan intergreens; do
     bin=target/bin/$program
     case $program in
@@ -135,6 +136,7 @@ for program in plan intergreens; do
     same "$program of an empty name" '' "$program: a file name is empty or too long\n" $bin ''
     same "$program of a name of 5,000 bytes" '' "$program: a file name is empty or too long\n" $bin "$long"
     same "$program of a name that is too long for a file" '' "$component: File name too long\n" $bin "$component"
+    same "$program of a name that is not UTF-8" '' "$program: a file name is not UTF-8 text\n" $bin "$latin"
     for option in -h --help -; do
         same "$program $option" '' "usage: $words\n" $bin $option
     done
@@ -237,6 +239,7 @@ same "shift over its own plan" '' "$work/own.plan: File exists\n" $shift $juncti
 cmp "$work/shifted.plan" "$work/own.plan" || failed=1
 same "shift into no folder" '' "$work/none/plan: No such file or directory\n" $shift $junction $plan 10 "$work/none/plan"
 same "shift with an empty name for its file" '' 'shift: a file name is empty or too long\n' $shift $junction $plan 10 ''
+same "shift with a name that is not UTF-8 for its file" '' 'shift: a file name is not UTF-8 text\n' $shift $junction $plan 10 "$latin"
 same "shift with an option for its file" '' 'usage: shift JUNCTION-FILE PLAN-FILE OFFSET [NEW-PLAN-FILE]\n' $shift $junction $plan 10 -x
 same "shift with too many arguments" '' 'usage: shift JUNCTION-FILE PLAN-FILE OFFSET [NEW-PLAN-FILE]\n' $shift $junction $plan 10 "$work/a" "$work/b"
 same "shift without an offset" '' 'usage: shift JUNCTION-FILE PLAN-FILE OFFSET [NEW-PLAN-FILE]\n' $shift $junction $plan
@@ -264,6 +267,7 @@ for program in judge delay shift; do
     same "$program with an option for a plan" '' "$usage" $bin $junction -x $more
     same "$program of an empty name" '' "$program: a file name is empty or too long\n" $bin '' $plan $more
     same "$program of a plan's name of 5,000 bytes" '' "$program: a file name is empty or too long\n" $bin $junction "$long" $more
+    same "$program of a plan's name that is not UTF-8" '' "$program: a file name is not UTF-8 text\n" $bin $junction "$latin" $more
     same "$program of a junction that cannot be read" '' '/proc/self/mem: Input/output error\n' $bin /proc/self/mem $plan $more
     same "$program of a plan that cannot be read" '' '/proc/self/mem: Input/output error\n' $bin $junction /proc/self/mem $more
     same "$program of text for a junction" 'refused 2 0\n' '' $bin "$work/text" $plan $more

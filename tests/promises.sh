@@ -5,26 +5,29 @@
 #   before it is of the crate with whose name it begins (`givendra_judge`). A crate that the section calls "Crate `NAME`" has its
 #   functions told of there, and needs no row.
 # - Definitions and theorems: in `FILE.antt`: `NAME`, `NAME`, in `NAME` of `FILE.antt` and in `NAME` (`FILE.antt`) that file declares the name; in
-#   `NAME` (`CRATE`) that crate does. Any other name with a hyphen, or with a capital inside, is declared in the specs/ of some crate.
-# - Functions: `CRATE::FUNCTION` is one. In docs/PROMISES.md a name with an underscore is a function, a crate or a must-fail edit.
+#   `NAME` (`CRATE`) that crate does. With a file of specs/ goes the one of the same name in proofs/, where its crate has that.
+# - Functions: `CRATE::FUNCTION` is one.
+# - Any other name with an underscore is declared so by some crate, or is a function, a crate, a must-fail edit or a name of the header
+#   include/givendra.h. No name but a file's has a hyphen, or a capital inside.
 # - Must-fail edits: `CRATE/LABEL` is crates/CRATE/must-fail/LABEL.edit; in a column "edit" further names are labels of that crate.
 # - Files: each path is one from the root, from crates/ or in a crate. A path with a word in capitals (crates/NAME) stands for many, and target/ is
-#   made. The documents are README.md, CONTRIBUTING.md and docs/*.md; docs/releases/ tells of the past.
+#   made. The documents are README.md, CONTRIBUTING.md and docs/*.md; docs/releases/ and docs/PORT.md tell of the past.
 cd "$(dirname "$0")/.." || exit 1
 promises=${1:-docs/PROMISES.md}
 [ -f "$promises" ] || { echo "promises: no file $promises"; exit 1; }
 work=$(mktemp -d) || exit 1
 trap 'rm -rf "$work"' EXIT
 
-# What is there, a line for each: `path PATH`, `fn CRATE::FUNCTION`, `pub CRATE::FUNCTION`, `name FILE NAME`.
+# What is there, a line for each: `path PATH`, `fn CRATE::FUNCTION`, `pub CRATE::FUNCTION`, `name FILE NAME`, `c NAME`.
 {
-    find . \( -path ./target -o -path ./.git \) -prune -o -print | sed -n 's|^\./|path |p'
+    find . \( -path ./target -o -path ./.git -o -path './crates/*/out' \) -prune -o -print | sed -n 's|^\./|path |p'
     for file in crates/*/src/*.rt; do
         crate=${file#crates/} crate=${crate%%/*}
         sed -n "s/^ *\(pub \)\{0,1\}\(extern \"C\" \)\{0,1\}fn \([A-Za-z0-9_]*\).*/fn $crate::\3/p" "$file"
         case $file in */lib.rt) sed -n "s/^pub \(extern \"C\" \)\{0,1\}fn \([A-Za-z0-9_]*\).*/pub $crate::\2/p" "$file" ;; esac
     done
-    for file in $(find crates -path '*/specs/*' -name '*.antt'); do
+    grep -o '[a-z0-9]*_[a-z0-9_]*' include/givendra.h | sort -u | sed 's/^/c /'
+    for file in $(find crates -path 'crates/*/out' -prune -o -name '*.antt' ! -path 'crates/*/proofs/*/Answers.antt' -print); do
         awk -v file="$file" '{
             sub(/^ +/, "")
             while (sub(/^(unfoldable|abbrev|pub) /, "")) continue
@@ -35,7 +38,7 @@ trap 'rm -rf "$work"' EXIT
 
 others=
 for file in README.md CONTRIBUTING.md docs/*.md; do
-    [ "$file" = docs/PROMISES.md ] || [ ! -f "$file" ] || others="$others $file"
+    [ "$file" = docs/PROMISES.md ] || [ "$file" = docs/PORT.md ] || [ ! -f "$file" ] || others="$others $file"
 done
 
 awk -v promises="$promises" '
@@ -51,6 +54,11 @@ function first(words) { sub(/[ :].*/, "", words); return words }
 # the file that a path names, "" where there is none; a bare name may be that of a file beside the one named before it
 function found(path, p, pattern) {
     sub(/\/$/, "", path)
+    if (path ~ /\/specs\//) {
+        if (path in paths) return path
+        if (("crates/" path) in paths) return "crates/" path
+        path = sister(path)
+    }
     if (path in paths) return path
     if (("crates/" path) in paths) return "crates/" path
     if (path in in_a_crate) return in_a_crate[path]
@@ -65,10 +73,13 @@ function found(path, p, pattern) {
     return ""
 }
 
+# the file of the same name in proofs/, of a path in specs/
+function sister(path) { sub(/\/specs\//, "/proofs/", path); return path }
+
 # the name of word n, of which `reading s` has the first word, is declared in a file or crate
 function declared(n, where) {
     names++
-    if (!((where " " first(word[n])) in declares)) missing(n, where " declares no " first(word[n]))
+    if (!((where " " first(word[n])) in declares) && !((sister(where) " " first(word[n])) in declares)) missing(n, where " declares no " first(word[n]))
 }
 
 function edit(n, crate, label) {
@@ -110,7 +121,7 @@ function looked_at(n, w, c, crate, crate_of_edits, file, listing) {
             if (first(w) ~ /^(std|check|libc|io|os|bytes)$/) continue
             functions++
             if (!(w in fns)) missing(n, "no function " w)
-        } else if (listing && file != "" && w ~ /^[A-Za-z][A-Za-z0-9-]*$/) {
+        } else if (listing && file != "" && w ~ /^[A-Za-z][A-Za-z0-9_-]*$/) {
             declared(n, file)
         } else if (edits_table && column[n] == 2 && w ~ /^[a-z0-9_]+$/) {
             edit(n, crate_of_edits, w)
@@ -128,10 +139,14 @@ function looked_at(n, w, c, crate, crate_of_edits, file, listing) {
         } else if (w ~ /^[a-z][a-z0-9]*(-[a-z0-9]+)+$/ || w ~ /^[a-z][a-z0-9]*[A-Z][A-Za-z0-9]*$/) {
             if (w in paths) continue
             names++
-            if (!(w in declared_somewhere)) missing(n, "no specs/ declares " w)
-        } else if (document == promises && w ~ /^[a-z0-9]+(_[a-z0-9]+)+$/) {
+            if (!(w in declared_somewhere)) missing(n, "no file declares " w)
+        } else if (w ~ /^[a-z0-9]+(_[a-z0-9]+)+$/) {
+            if (w in declared_somewhere) {
+                names++
+                continue
+            }
             functions++
-            if (!(w in by_name) && !(w in crates)) missing(n, "no function, crate or must-fail edit " w)
+            if (!(w in by_name) && !(w in crates) && !(w in in_header)) missing(n, "no definition, function, crate or must-fail edit " w)
         }
     }
     count = 0
@@ -150,6 +165,7 @@ NR == FNR {
     }
     if ($1 == "pub") public[$2] = 1
     if ($1 == "fn") fns[$2] = by_name[last($2)] = 1
+    if ($1 == "c") in_header[$2] = 1
     if ($1 == "name") declares[$2 " " $3] = declares["crates/" part[2] " " $3] = declared_somewhere[$3] = 1
     next
 }
