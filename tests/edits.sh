@@ -20,13 +20,15 @@ def read(path):
 
 
 def function_of(inside):
-    """The function whose proof a file of the crate is, None where it is another file."""
+    """The function whose proof a file of the crate is, with its type's and its trait's names before it; None where it is another file."""
     part = inside.split("/")
-    return part[1].lstrip("+") if part[0] == "proofs" and part[-1] in ("Answers.antt", "Invariants.antt") else None
+    return "::".join(part[1:-1]).lstrip("+") if part[0] == "proofs" and part[-1] in ("Answers.antt", "Invariants.antt") else None
 
 
-def words(text):
-    return set(re.findall(r"[\w'-]+", text))
+def words(text, texts):
+    """The names that a text can name: words, and for `Type::function` the functions of that name of the type and its traits."""
+    named = {name for of, function in re.findall(r"(\w+)::(\w+)", text) for name in texts if name.startswith(of) and name.endswith("::" + function)}
+    return set(re.findall(r"[\w'-]+", text)) & texts.keys() | named
 
 
 def declarations(path):
@@ -44,13 +46,18 @@ def declarations(path):
 
 def functions(path):
     """Name, first line and text of each function of a source; its attributes belong to it."""
-    found, start = [], 0
+    found, start, of = [], 0, ""
     for number, line in enumerate(read(path).split("\n"), 1):
         fn = re.match(r"\s*(?:pub )?(?:const )?(?:extern \"C\" )?fn (\w+)", line)
+        impl = re.match(r"impl(?:<[^>]*>)? (?:(.*) for )?(.*) \{$", line)
+        if impl:
+            of = re.sub(r"\W", "", re.sub(r"fmt::|<'?_?\w*>$", "", impl[2]) + re.sub(r"fmt::", "", (impl[1] or "").replace("()", "Unit"))) + "::"
+        if line == "}":
+            of = ""
         if re.match(r"\s*#\[tactic", line):
             start = number
         if fn:
-            found.append([fn[1], start or number, ""])
+            found.append([(of if line.startswith(" ") else "") + fn[1], start or number, ""])
             start = 0
         if found:
             found[-1][2] += line + "\n"
@@ -105,7 +112,7 @@ def checked(folder, edit):
 
 def refused_in(said):
     """The names of the functions that the prover does not accept, and of the theorems that it refuses for what they say."""
-    names = re.findall(r"^fn \w+::(?:\S+::)?(\w+): no(?:t proved| proof)", said, re.M)
+    names = re.findall(r"^fn \w+::((?:[A-Z]\w*::)?\w+): no(?:t proved| proof)", said, re.M)
     for path, name in re.findall(r"^(?:\./)?(\S+?):\d+:\d+: error: `([^`]+)`: (?!.*was not admitted)", said, re.M):
         names.append(function_of(path) or name)
     return set(names)
@@ -124,7 +131,7 @@ for edit in sorted(glob.glob("crates/*/must-fail/*.edit")):
         name = left.pop()
         if name not in reached:
             reached.add(name)
-            left.extend(words(texts[name]) & texts.keys())
+            left.extend(words(texts[name], texts))
     if told in reached or told and reached & refused_in(checked(folder, edit)):
         held += 1
     else:

@@ -8,7 +8,7 @@ ghost use Rattle.counts.specs.Newest.{usable as is_usable, rank as rank_of, rank
 use limits::{GREATEST_FLOW, GREATEST_PERIOD, LEAST_FLOW, LEAST_PERIOD};
 
 // A traffic count: the car stream's number, the day of the count, the flow in E/h, the period of the day.
-#[derive(Clone, Copy)]
+#[derive(Clone, Copy, Debug, PartialEq, Eq)]
 pub struct Count {
     pub stream: u8,
     pub day: u16,
@@ -17,7 +17,7 @@ pub struct Count {
 }
 
 // What is asked for: a count of this car stream, not after this day, in this period. Each number is as wide as a caller can hand it in.
-#[derive(Clone, Copy)]
+#[derive(Clone, Copy, Debug, PartialEq, Eq)]
 pub struct Wanted {
     pub stream: usize,
     pub day: u16,
@@ -26,10 +26,11 @@ pub struct Wanted {
 
 // The larger of the rank so far and a count's. The rank of a usable count is its day times 65,536 plus its flow, and 0 of another; the
 // rank so far is 0 where no usable count has come.
+// Stays one number, with 0 for none: documents name `newer`, `day` and `flow`, whose clauses are of ranks as numbers.
 pub fn newer(best: u32, w: Wanted, c: Count) -> u32
     ensures { result ≡ max best (rank_of w c) }
 {
-    laws::u32_larger(best, rank(w, c))
+    best.max(rank(w, c))
 }
 
 #[tactic(auto, unfolding(crate::specs::Newest::rank))]

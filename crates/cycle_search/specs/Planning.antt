@@ -1,9 +1,8 @@
 -- The plan of a length, what makes a length fail, and the cycle (document 01, "Working out a plan").
-use Rattle.std.specs.Prelude.{ℕ, ◌+◌, ◌-◌, min, Bool, true, false, cond, ltb, eqb, replicate}
+use Rattle.std.specs.Prelude.{ℕ, ◌+◌, ◌-◌, min, Bool, true, false, cond, ltb, eqb, replicate, Ok, Err}
 use Rattle.laws.specs.Filled.{filled}
 use Rattle.laws.specs.Search.{first_below}
-use Rattle.fields.specs.declared.Verdict.{Verdict}
-use Rattle.fields.specs.declared.Verdict.TheVariants.{Passed, Refused}
+use Rattle.fields.specs.Verdict.{Verdict}
 use Rattle.junction.specs.declared.Junction.{Junction}
 use Rattle.junction_places.specs.Places.{stream_numbered}
 use Rattle.phase_lengths.specs.Phases.{ratio_sum, lost_time, first_length}
@@ -54,8 +53,8 @@ pub data Outcome : Type 0 where
   ZoneUnmet : Outcome
 
 abbrev pub rule_outcome : Verdict → Outcome
-rule_outcome Passed = Works
-rule_outcome (Refused number place) = cond (eqb number 15) NeedUnmet (cond (eqb number 16) CapacityUnmet ZoneUnmet)
+rule_outcome (Ok u) = Works
+rule_outcome (Err r) = cond (eqb r.number 15) NeedUnmet (cond (eqb r.number 16) CapacityUnmet ZoneUnmet)
 
 unfoldable pub outcome : Junction → ℕ → Outcome
 outcome j t =

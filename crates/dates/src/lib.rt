@@ -2,10 +2,10 @@
 #![tactic(auto)]
 
 ghost use Rattle.std.specs.Prelude.{◌≡◌, ◌+◌, ◌≤◌, ◌<◌};
-ghost use Rattle.dates.specs.Dates.{is_leap_year, year_length, has_thirty, month_length, days_before_year, CalendarDate, number};
+ghost use Rattle.dates.specs.Dates.{is_leap_year, year_length, month_length, days_before_year, CalendarDate, number};
 
 // A date: the year, the month from 1 to 12, and the day of the month from 1.
-#[derive(Clone, Copy)]
+#[derive(Clone, Copy, Debug, PartialEq, Eq, PartialOrd, Ord)]
 pub struct Date {
     pub year: u16,
     pub month: u8,
@@ -31,42 +31,29 @@ fn year_length(year: u16) -> u16
     365
 }
 
-// Whether a month other than February has thirty days.
-#[tactic(auto, unfolding(crate::specs::Dates::has_thirty))]
-fn has_thirty(month: u8) -> bool
-    ensures { result ≡ has_thirty month }
-{
-    (month == 4) | (month == 6) | (month == 9) | (month == 11)
-}
-
 // How many days a month of a year has.
-#[tactic(auto, unfolding(crate::specs::Dates::month_length))]
+#[tactic(auto, unfolding(crate::specs::Dates::month_length, crate::specs::Dates::has_thirty))]
 fn month_length(year: u16, month: u8) -> u16
     ensures { result ≡ month_length year month }
 {
-    if month == 2 {
-        if leap_year(year) {
-            return 29;
-        }
-        return 28;
+    match month {
+        2 if leap_year(year) => 29,
+        2 => 28,
+        4 | 6 | 9 | 11 => 30,
+        _ => 31,
     }
-    if has_thirty(month) {
-        return 30;
-    }
-    31
 }
 
 // The date before which so many days of its year come. It requires a year from 2000 on, with more days than that.
-#[tactic(auto, unfolding(crate::specs::Dates::number))]
+#[tactic(auto, using(crate::specs::lemmas::Steps::month_first, crate::specs::lemmas::Steps::month_next, crate::specs::lemmas::Steps::month_short, crate::specs::lemmas::Steps::twelve_months), unfolding(crate::specs::Dates::number))]
 fn date_in_year(year: u16, before: u16) -> Date
     requires from2000 { 2000 ≤ year }
     requires within { before < year_length year }
     ensures calendar { CalendarDate result }
     ensures numbered { number result ≡ days_before_year year + before }
 {
-    let mut month: u8 = 1;
     let mut rest = before;
-    loop {
+    for month in 1..=12 {
         let length = month_length(year, month);
         if rest < length {
             return Date {
@@ -76,23 +63,23 @@ fn date_in_year(year: u16, before: u16) -> Date
             };
         }
         rest -= length;
-        month += 1;
     }
+    unreachable!()
 }
 
 // The date of a day of a junction file: the one date of the calendar that has this number. Every day is answered, 2000-01-01 to 2179-06-06.
+#[tactic(auto, using(crate::specs::lemmas::Steps::year_first, crate::specs::lemmas::Steps::year_next, crate::specs::lemmas::Steps::year_long))]
 pub fn date_of(day: u16) -> Date
     ensures calendar { CalendarDate result }
     ensures numbered { number result ≡ day }
 {
-    let mut year: u16 = 2000;
     let mut rest = day;
-    loop {
+    for year in 2000..2180 {
         let length = year_length(year);
         if rest < length {
             return date_in_year(year, rest);
         }
         rest -= length;
-        year += 1;
     }
+    unreachable!()
 }

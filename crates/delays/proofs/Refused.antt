@@ -4,15 +4,13 @@ use Rattle.std.specs.Prelude.{ℕ, true, false, List, ◌↔◌, ◌≡◌}
 use Rattle.std.proofs.Common.{arith, sym, ◌∙◌}
 use Rattle.std.proofs.Math.Path.{ap}
 use Rattle.fields.specs.lemmas.Numbers.{Numbered, ask_numbered, first_numbered, passed_number}
-use Rattle.fields.specs.Verdict.{ask_passed, first_refusal, both_passed}
-use Rattle.fields.specs.declared.Verdict.TheVariants.{Passed, Refused}
+use Rattle.fields.specs.Verdict.{ask_passed, first_refusal, both_passed, Passed, Refused}
 use Rattle.junction_questions.specs.Questions.{count_refers}
 use Rattle.junction_file.specs.Reading.{reading}
 use Rattle.plan_file.specs.Plans.{plan_of}
 use Rattle.plan_judge.specs.Judgement.{judgement}
 use Rattle.plan_judge.proofs.Numbers.{judgement_numbered}
 use Rattle.delays.specs.Answer.{car_asked, stream_figures, told, unless, delay_verdict, answer, refusal}
-use Rattle.delays.specs.declared.Delayed.TheVariants as delayed
 use Rattle.delays.specs.Refused.{unless_number}
 
 module _ (junction plan : List ℕ) (n : ℕ) where
@@ -45,13 +43,13 @@ module _ (junction plan : List ℕ) (n : ℕ) where
       )
 
   -- the judge's refusal
-  pub judge_first : (number place : ℕ) → judgement junction plan ≡ Refused number place → answer junction plan n ≡ delayed.Refused number place
+  pub judge_first : (number place : ℕ) → judgement junction plan ≡ Refused number place → answer junction plan n ≡ Refused number place
   unfolding answer delay_verdict unless
   judge_first number place e =
       let verdict : delay_verdict junction plan n ≡ Refused number place = ap (λ v. first_refusal v (car_asked (reading junction).junction n)) e in
       ap (λ v. unless v (told (stream_figures (reading junction).junction (plan_of plan) n))) verdict
 
   -- then 9
-  pub no_car : judgement junction plan ≡ Passed → count_refers (reading junction).junction n ≡ false → answer junction plan n ≡ delayed.Refused 9 n
+  pub no_car : judgement junction plan ≡ Passed → count_refers (reading junction).junction n ≡ false → answer junction plan n ≡ Refused 9 n
   unfolding answer delay_verdict car_asked unless
   no_car accepted e = simp (accepted, e)

@@ -2,7 +2,7 @@
 -- green and one second fill the cycle; a delay that is finite and above 0; a saturation that is finite and 1 or more, and only where the flow meets its
 -- capacity exactly.
 use Rattle.std.specs.Prelude.{ℕ, true, List, ◌≡◌}
-use Rattle.fields.specs.declared.Verdict.TheVariants.{Passed}
+use Rattle.fields.specs.Verdict.{Passed}
 use Rattle.junction_questions.specs.Questions.{count_refers}
 use Rattle.junction_file.specs.Reading.{reading}
 use Rattle.plan_judge.specs.Judgement.{judgement}

@@ -1,8 +1,7 @@
 -- What the program `delay` reads of the two files is enough: the bytes after it change no answer.
 use Rattle.std.specs.Prelude.{ℕ, List, ◌≡◌, take}
 use Rattle.std.proofs.Common.{arith, take_all}
-use Rattle.fields.specs.Verdict.{both_passed}
-use Rattle.fields.specs.declared.Verdict.TheVariants.{Passed}
+use Rattle.fields.specs.Verdict.{both_passed, Passed}
 use Rattle.junction_file.specs.Reading.{reading}
 use Rattle.junction_file.proofs.TakenFile.{taken}
 use Rattle.plan_file.specs.lemmas.Long.{enough}

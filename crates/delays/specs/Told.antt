@@ -7,7 +7,7 @@ use Rattle.std.proofs.lemmas.Bool.{false≢true}
 use Rattle.std.specs.Float.Ieee.{le}
 use Rattle.std.specs.Float.Ieee.Positive.{positive}
 use Rattle.laws.specs.Ranges.{Between}
-use Rattle.fields.specs.declared.Verdict.TheVariants.{Passed}
+use Rattle.fields.specs.Verdict.{Passed}
 use Rattle.junction.specs.declared.Junction.{Junction}
 use Rattle.junction_questions.specs.Questions.{count_refers}
 use Rattle.junction_file.specs.Reading.{reading}

@@ -4,7 +4,7 @@ use Rattle.std.specs.Prelude.{ℕ, ◌-◌, ◌≤◌, ◌<◌, List, ◌≡◌}
 use Rattle.std.proofs.Common.{zero-le, le_refl, arith}
 use Rattle.std.proofs.Math.Logic.{inl, inr, ⊎_elim}
 use Rattle.laws.specs.Tests.{by_test}
-use Rattle.fields.specs.declared.Verdict.TheVariants.{Passed}
+use Rattle.fields.specs.Verdict.{Passed}
 use Rattle.exact_times.proofs.InTimeFarther.{in_time_farther}
 use Rattle.exact_times.specs.Leaves.{LeavesInTime}
 use Rattle.junction.specs.declared.Junction.{Junction}

@@ -7,7 +7,7 @@
 -- is `Accepted`, and the `Result`; Figures.antt the figures, as the C library answers them.
 use Rattle.std.specs.Prelude.{ℕ, List, ◌≡◌, ltb, length}
 use Rattle.std.proofs.Common.{ltb-true, ltb-false, lt-ltb, le-ltb}
-use Rattle.fields.specs.declared.Verdict.TheVariants.{Passed}
+use Rattle.fields.specs.Verdict.{Passed}
 use Rattle.junction_file.specs.Reading.{reading}
 use Rattle.plan_file.specs.Writing.{has_room}
 use Rattle.cycle_search.specs.Planning.{ratios, cycle}

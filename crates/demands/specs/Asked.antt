@@ -1,13 +1,11 @@
 -- Questions asked in order, and what their answer is: the refusal of the first question that fails (document 01, "Questions in order").
-use Rattle.std.specs.Prelude.{ℕ, zero, suc, ◌+◌, ◌-◌, ◌<◌, Bool, true, false, not, List, [], ◌∷◌, ◌++◌, ◌↔◌, ◌⊎◌, ◌≡◌, refl, leb, length, get_or}
+use Rattle.std.specs.Prelude.{ℕ, zero, suc, ◌+◌, ◌-◌, ◌<◌, Bool, true, false, not, List, [], ◌∷◌, ◌++◌, ◌↔◌, ◌⊎◌, ◌≡◌, refl, leb, length, get_or, Ok, Err}
 use native.Mathlib.Omega.{arith}
 use Rattle.std.proofs.Common.{true≢false, inl, inr, ⊎_elim, sym, ◌∙◌, ap, le-leb}
 use Rattle.std.proofs.lemmas.Bool.{lt-leb}
 use Rattle.laws.specs.Search.{first_of, first_below}
 use Rattle.laws.specs.Tests.{by_test}
-use Rattle.fields.specs.Verdict.{number_of, place_of, ask, first_refusal, first_failing, ask_each}
-use Rattle.fields.specs.declared.Verdict.{Verdict}
-use Rattle.fields.specs.declared.Verdict.TheVariants.{Passed, Refused}
+use Rattle.fields.specs.Verdict.{number_of, place_of, ask, first_refusal, first_failing, ask_each, Verdict, Passed, Refused}
 
 -- a question: its number, the place of its refusal, and whether it passes
 pub record Question : Type 0 where
@@ -93,8 +91,8 @@ answer_passed (q ∷ qs) =
     ))
   where
     is_one : Verdict → ℕ
-    is_one Passed = 0
-    is_one (Refused n p) = 1
+    is_one (Ok u) = 0
+    is_one (Err r) = 1
 
     later_passes : q.passes ≡ true → ((i : ℕ) → i < length qs → (get_or qs i (question 0 0 true)).passes ≡ true)
         → (i : ℕ) → i < suc (length qs) → (get_or (q ∷ qs) i (question 0 0 true)).passes ≡ true
@@ -141,8 +139,8 @@ module _ (holds : ℕ → Bool) (number n : ℕ) where
   answer_each_last = sym (last (answer (each holds number n))) ∙ each_next Passed
     where
       last : (v : Verdict) → first_refusal v Passed ≡ v
-      last Passed = refl
-      last (Refused m p) = refl
+      last (Ok u) = refl
+      last (Err r) = refl
 
 -- a verdict is the answer to questions asked in order
 pub record Answers (v : Verdict) (asked : List Question) (Listed : ℕ → ℕ → Type 0) : Type 0 where

@@ -9,7 +9,7 @@ use Rattle.std.proofs.Math.Dec.{T}
 use Rattle.std.specs.Float.Ieee.{le}
 use Rattle.std.specs.Float.Ieee.Positive.{positive}
 use borrow.Author.Tests.{le-leb, lt-leb}
-use Rattle.fields.specs.declared.Verdict.TheVariants.{Passed}
+use Rattle.fields.specs.Verdict.{Passed}
 use Rattle.junction_questions.specs.Questions.{count_refers}
 use Rattle.junction_file.specs.Reading.{reading}
 use Rattle.junction_figures.specs.Figures.{stream_flow, stream_saturation}

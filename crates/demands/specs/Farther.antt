@@ -1,7 +1,7 @@
 -- No stream clears a longer way sooner, over files (document 02, 2026-02): of two junction files that are taken and differ in clearing distances
 -- alone, the second having none that is less, the second has no lesser intergreen, and a plan that is accepted with it is accepted with the first.
 use Rattle.std.specs.Prelude.{ℕ, ◌≤◌, ◌<◌, List, ◌≡◌}
-use Rattle.fields.specs.declared.Verdict.TheVariants.{Passed}
+use Rattle.fields.specs.Verdict.{Passed}
 use Rattle.junction.specs.declared.Junction.{Junction}
 use Rattle.junction.specs.declared.Side.{Side}
 use Rattle.junction_places.specs.Places.{zone_at}

@@ -6,7 +6,7 @@ use Rattle.std.proofs.Common.{sub-add_cancel, arith, sym, ◌∙◌, ap}
 use Rattle.std.proofs.Math.Dec.{leb}
 use borrow.Author.Tests.{leb-true}
 use Rattle.laws.specs.Tests.{both_left, both_right}
-use Rattle.fields.specs.declared.Verdict.TheVariants.{Passed}
+use Rattle.fields.specs.Verdict.{Passed}
 use Rattle.streams.specs.declared.CarFigures.{CarFigures}
 use Rattle.streams.specs.declared.CyclistFigures.{CyclistFigures}
 use Rattle.streams.specs.declared.IslandFigures.{IslandFigures}

@@ -1,7 +1,7 @@
 -- The plan file of a length, when a length is accepted, and what is worked out where nothing is refused.
 use Rattle.std.specs.Prelude.{ℕ, ◌+◌, ◌-◌, ◌*◌, ◌≤◌, ◌<◌, List, ◌++◌, ◌≡◌, drop}
 use Rattle.laws.specs.Ranges.{Between}
-use Rattle.fields.specs.declared.Verdict.TheVariants.{Passed}
+use Rattle.fields.specs.Verdict.{Passed}
 use Rattle.junction_file.specs.Reading.{reading}
 use Rattle.plan_file.specs.Writing.{plan_file}
 use Rattle.phase_lengths.specs.Phases.{lost_time}
@@ -11,7 +11,7 @@ use Rattle.cycle_search.specs.Planning.{first_tried, plan_at}
 use Rattle.plan_judge.specs.Judgement.{judgement}
 use Rattle.planner.specs.Demand2.{lengths_from_lost}
 use Rattle.planner.specs.WorkingOut.{buffer}
-use Rattle.planner.specs.declared.Worked.{Worked}
+use Rattle.planner.specs.WorkingOut.{Worked}
 
 -- the plan file of a length
 abbrev pub plan_bytes : List ℕ → ℕ → List ℕ

@@ -8,7 +8,7 @@
 -- `Answers` them, Places.antt the numbers that the paper lists for each entry, with their places.
 use Rattle.std.specs.Prelude.{ℕ, ◌≤◌, List, ◌↔◌, ◌⊎◌, ◌≡◌, length}
 use Rattle.fields.specs.Bytes.{number_at}
-use Rattle.fields.specs.declared.Verdict.TheVariants.{Refused}
+use Rattle.fields.specs.Verdict.{Refused}
 use Rattle.counts.specs.declared.Wanted.{Wanted}
 use Rattle.junction_file.specs.Reading.{reading}
 use Rattle.plan_file.specs.Plans.{plan_of}

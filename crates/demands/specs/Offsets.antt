@@ -3,13 +3,12 @@
 --
 -- `shift_answer` and `shifted_plan` are what `givendra_shift` is proved to answer and to leave; `shifted` moves the starts of a plan file by any whole
 -- offset (offsets/specs/Shifting.antt); `StartByte` says of a place that it is one of the two bytes of a start.
-use Rattle.std.specs.Prelude.{ℕ, ◌+◌, ◌*◌, ◌/◌, ◌%◌, ◌≤◌, ◌<◌, List, ◌↔◌, ◌≡◌, length}
+use Rattle.std.specs.Prelude.{ℕ, ◌+◌, ◌*◌, ◌/◌, ◌%◌, ◌≤◌, ◌<◌, List, ◌↔◌, ◌≡◌, length, Some}
 use native.Mathlib.Omega.{arith}
 use Rattle.std.proofs.Math.Path.{refl, ap}
 use Rattle.laws.specs.Tests.{by_test}
 use Rattle.fields.specs.Bytes.{byte_at, number_at}
-use Rattle.fields.specs.Verdict.{is_refused, not_refused}
-use Rattle.fields.specs.declared.Verdict.TheVariants.{Passed}
+use Rattle.fields.specs.Verdict.{is_refused, not_refused, Passed}
 use Rattle.junction_file.specs.Reading.{reading}
 use Rattle.junction_file.proofs.TakenFile.{taken}
 use Rattle.plan_file.specs.Plans.{plan_verdict, plan_of}
@@ -20,7 +19,7 @@ use Rattle.delays.specs.Answer.{stream_figures, told, delay_verdict, answer}
 use Rattle.delays.specs.Refused.{unless_same}
 use Rattle.delays.proofs.Refused.{verdict_passed}
 use Rattle.delays.specs.lemmas.InRange.{car_of_lem}
-use Rattle.decimals.specs.Decimals.{most_decimal, value_of, decimal_of}
+use Rattle.decimals.specs.Decimals.{most_decimal, value_of, counted, decimal_of, number_is}
 use Rattle.offsets.proofs.Long.{most_asked, most_shifted}
 use Rattle.offsets.proofs.Refused.{shift_passed, shift_unaltered, shift_altered}
 use Rattle.offsets.proofs.SameJudgement.{same_judgement, same_acceptable, shift_judged}
@@ -136,10 +135,17 @@ module _ (junction plan : List ℕ) where
 
   -- an offset that is typed, as the program `shift` takes it: the answer is that of the number that its digits make, however long
   module _ (text : List ℕ) where
-    pub typed_asked : shift_verdict junction plan (decimal_of text).value ≡ shift_verdict junction plan (value_of text (length text))
-    unfolding decimal_of most_decimal
+    pub typed_asked : shift_verdict junction plan (counted text) ≡ shift_verdict junction plan (value_of text (length text))
+    unfolding most_decimal
     typed_asked = most_asked junction plan (value_of text (length text)) most_decimal (omega arith)
 
-    pub typed_shifted : shifted_plan junction plan (decimal_of text).value ≡ shifted_plan junction plan (value_of text (length text))
-    unfolding decimal_of most_decimal
+    pub typed_shifted : shifted_plan junction plan (counted text) ≡ shifted_plan junction plan (value_of text (length text))
+    unfolding most_decimal
     typed_shifted = most_shifted junction plan (value_of text (length text)) most_decimal (omega arith)
+
+    -- so it is with the number that the program reads
+    pub read_asked : (n : ℕ) → decimal_of text ≡ Some n → shift_verdict junction plan n ≡ shift_verdict junction plan (value_of text (length text))
+    read_asked n e = rw (number_is text n e) typed_asked
+
+    pub read_shifted : (n : ℕ) → decimal_of text ≡ Some n → shifted_plan junction plan n ≡ shifted_plan junction plan (value_of text (length text))
+    read_shifted n e = rw (number_is text n e) typed_shifted

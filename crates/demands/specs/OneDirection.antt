@@ -1,7 +1,7 @@
 -- An intergreen time goes by the clearing distances of the one stream and the reaching distances of the other at their zones, over files
 -- (document 02, 2026-03): two junction files that are taken and differ in other distances alone have the same one.
 use Rattle.std.specs.Prelude.{ℕ, List, ◌≡◌}
-use Rattle.fields.specs.declared.Verdict.TheVariants.{Passed}
+use Rattle.fields.specs.Verdict.{Passed}
 use Rattle.junction_places.specs.Places.{exists}
 use Rattle.junction_file.specs.Reading.{reading}
 use Rattle.junction_figures.specs.Directions.{SameDirection}

@@ -4,15 +4,13 @@
 -- `portable_answer` is what `givendra_portable` is proved to answer. `asked_of` has M, and flow and S of both approaches; `first_tried` is T0; `greens_at`
 -- are the greens that the planner's steps give at a length, and `works` says that a length gives greens which keep the rules
 -- (roadworks/specs/Roadworks.antt); `Signals` is the meaning (roadworks/specs/Meaning.antt).
-use Rattle.std.specs.Prelude.{ℕ, ◌+◌, ◌-◌, ◌*◌, ◌≤◌, ◌<◌, true, false, ◌&&◌, cond, List, ◌↔◌, ◌≡◌, refl, length}
+use Rattle.std.specs.Prelude.{ℕ, ◌+◌, ◌-◌, ◌*◌, ◌≤◌, ◌<◌, true, false, ◌&&◌, cond, List, ◌↔◌, ◌≡◌, refl, length, Ok, Err, Some}
 use Rattle.std.proofs.Common.{arith, ◌∙◌, ap}
 use Rattle.laws.specs.Ranges.{Between}
 use Rattle.laws.specs.Tests.{both_left, both_right}
 use Rattle.limits.specs.Limits.{most_seconds, no_cycle}
-use Rattle.fields.specs.Verdict.{number_of, is_refused}
-use Rattle.fields.specs.declared.Verdict.{Verdict}
-use Rattle.fields.specs.declared.Verdict.TheVariants.{Passed, Refused}
-use Rattle.decimals.specs.Decimals.{most_decimal, value_of, decimal_of}
+use Rattle.fields.specs.Verdict.{number_of, is_refused, Verdict, Passed, Refused}
+use Rattle.decimals.specs.Decimals.{most_decimal, value_of, counted, decimal_of, number_is as decimal_is}
 use Rattle.stretches.specs.Table.{listed, clearing_length, table_t, table_l, table_times}
 use Rattle.phase_lengths.specs.Phases.{ratio_sum}
 use Rattle.roadworks.proofs.Answered.{signals, first_tried_least}
@@ -97,12 +95,12 @@ place_zero n p waiting_short = refl
 
 -- a refusal's number says it all, since its place is 0
 number_says : (v : Verdict) → Told PortablePlace v → (n : ℕ) → 1 ≤ n → (number_of v ≡ n) ↔ (v ≡ Refused n 0)
-number_says Passed told n some = (λ e. absurd (omega arith), λ e. ap number_of e)
-number_says (Refused m p) told n some = (λ e. rw (e, place_zero m p told), λ e. ap number_of e)
+number_says (Ok u) told n some = (λ e. absurd (omega arith), λ e. ap number_of e)
+number_says (Err r) told n some = (λ e. rw (e, place_zero r.number r.place told), λ e. ap number_of e)
 
 none_says : (v : Verdict) → Told PortablePlace v → (number_of v ≡ 0) ↔ (v ≡ Passed)
-none_says Passed told = (λ e. refl, λ e. refl)
-none_says (Refused m p) told = (λ e. absurd (omega (arith, portable_some m p told)), λ e. ap number_of e)
+none_says (Ok u) told = (λ e. refl, λ e. refl)
+none_says (Err r) told = (λ e. absurd (omega (arith, portable_some r.number r.place told)), λ e. ap number_of e)
 
 through : {A B C : Type 0} → A ↔ B → B ↔ C → A ↔ C
 through f g = (λ x. g.0 (f.0 x), λ x. f.1 (g.1 x))
@@ -170,9 +168,30 @@ abbrev pub read_as : (List ℕ → ℕ) → List ℕ → List ℕ → List ℕ �
 read_as number flow saturation waiting = record { flow = number flow; saturation = number saturation; waiting = number waiting }
 
 pub typed_portable : (stretch speed flow saturation waiting flow2 saturation2 waiting2 : List ℕ)
-    → (let program : List ℕ → ℕ = λ text. (decimal_of text).value in
+    → (let program : List ℕ → ℕ = counted in
     portable (program stretch) (program speed) (read_as program flow saturation waiting) (read_as program flow2 saturation2 waiting2))
     ≡ portable (typed stretch) (typed speed) (read_as typed flow saturation waiting) (read_as typed flow2 saturation2 waiting2)
-unfolding decimal_of most_decimal
+unfolding most_decimal
 typed_portable stretch speed flow saturation waiting flow2 saturation2 waiting2 =
     most_answered most_decimal (omega arith) (typed stretch) (typed speed) (read_as typed flow saturation waiting) (read_as typed flow2 saturation2 waiting2)
+
+-- so it is with the numbers that the program reads
+abbrev pub ReadAs : List ℕ → ℕ → Type 0
+ReadAs text n = decimal_of text ≡ Some n
+
+pub read_portable : (stretch speed flow saturation waiting flow2 saturation2 waiting2 : List ℕ) (a b c d e f g h : ℕ)
+    → ReadAs stretch a → ReadAs speed b → ReadAs flow c → ReadAs saturation d → ReadAs waiting e
+    → ReadAs flow2 f → ReadAs saturation2 g → ReadAs waiting2 h
+    → portable a b (record { flow = c; saturation = d; waiting = e }) (record { flow = f; saturation = g; waiting = h })
+    ≡ portable (typed stretch) (typed speed) (read_as typed flow saturation waiting) (read_as typed flow2 saturation2 waiting2)
+read_portable stretch speed flow saturation waiting flow2 saturation2 waiting2 a b c d e f g h ra rb rc rd re rf rg rh =
+    rw (
+      decimal_is stretch a ra,
+      decimal_is speed b rb,
+      decimal_is flow c rc,
+      decimal_is saturation d rd,
+      decimal_is waiting e re,
+      decimal_is flow2 f rf,
+      decimal_is saturation2 g rg,
+      decimal_is waiting2 h rh,
+    ) (typed_portable stretch speed flow saturation waiting flow2 saturation2 waiting2)

@@ -7,7 +7,7 @@
 -- is `Accepted`, and the `Result`; Figures.antt the figures, as the C library answers them.
 use Rattle.std.specs.Prelude.{ℕ, ◌+◌, ◌*◌, ◌≤◌, ◌<◌, List, ◌↔◌, ◌≡◌, length}
 use Rattle.laws.specs.Ranges.{Between}
-use Rattle.fields.specs.declared.Verdict.TheVariants.{Passed, Refused}
+use Rattle.fields.specs.Verdict.{Passed, Refused}
 use Rattle.junction_file.specs.Reading.{reading}
 use Rattle.cycle_search.specs.Planning.{ratios, first_tried}
 use Rattle.planner.specs.WorkingOut.{worked}

@@ -5,7 +5,7 @@
 -- times as numbers, roots included.
 use Rattle.std.specs.Prelude.{ℕ, List, ◌↔◌, ◌≡◌, length, take}
 use Rattle.laws.specs.Ranges.{Between}
-use Rattle.fields.specs.declared.Verdict.TheVariants.{Passed}
+use Rattle.fields.specs.Verdict.{Passed}
 use Rattle.exact_times.specs.Leaves.{LeavesInTime, LeavesByLetter}
 use Rattle.exact_times.proofs.Streams.{letter_same}
 use Rattle.junction_places.specs.Places.{stream_numbered}

@@ -1,48 +1,56 @@
 // Fields of a file, and the answer that every reader gives (document 01, "The junction file" and "Questions in order").
 #![tactic(auto)]
 
-ghost use Rattle.std.specs.Prelude.{◌≡◌, ◌≤◌, ◌<◌, length};
-ghost use Rattle.fields.specs.Verdict.{ask as ask_of, is_refused, first_refusal};
+ghost use Rattle.std.specs.Prelude.{◌≡◌, ℕ, Bool, ◌+◌, ◌≤◌, ◌<◌, length};
+ghost use Rattle.fields.specs.Verdict.{Passed, ask, ask_each};
 ghost use Rattle.fields.specs.Bytes.{byte_at, number_at, byte_in, number_in, field_end};
 
-// What the questions in order give: no refusal, or the first one with its number and place.
-#[derive(Clone, Copy)]
-pub enum Verdict {
-    Passed,
-    Refused { number: u8, place: usize },
+use std::error::Error;
+use std::fmt;
+
+// The first question that is not met: its number and a place, in place of an answer.
+// The number stays a number, and no enum of questions: `Answers` of `demands`, and each theorem of a refusal, states the papers' number.
+#[derive(Clone, Copy, Debug, PartialEq, Eq)]
+pub struct Refusal {
+    pub number: u8,
+    pub place: usize,
 }
 
-// Whether there is a refusal.
-pub fn refused(v: Verdict) -> bool
-    ensures { result ≡ is_refused v }
-{
-    match v {
-        Verdict::Passed => false,
-        Verdict::Refused {
-            number: _,
-            place: _,
-        } => true,
+impl fmt::Display for Refusal {
+    fn fmt<W: fmt::Write>(&self, f: &mut fmt::Formatter<W>) -> fmt::Result {
+        write!(f, "refused {} {}", self.number, self.place)
     }
 }
 
-// The first refusal of two: the later verdict counts only where the earlier one refuses nothing.
-pub fn first_refusal(v: Verdict, later: Verdict) -> Verdict
-    ensures { result ≡ first_refusal v later }
-{
-    match v {
-        Verdict::Passed => later,
-        Verdict::Refused { number, place } => Verdict::Refused { number, place },
-    }
-}
+impl Error for Refusal {}
 
-// A question asked: what the later questions give where the answer is yes, else a refusal with the question's number and a place.
-pub fn ask(answer: bool, number: u8, place: usize, later: Verdict) -> Verdict
-    ensures { result ≡ ask_of answer number place later }
+// A question asked: a refusal with its number and a place where the answer is no.
+pub fn ask(answer: bool, number: u8, place: usize) -> Result<(), Refusal>
+    ensures { result ≡ ask answer number place Passed }
 {
     if answer {
-        return later;
+        Ok(())
+    } else {
+        Err(Refusal { number, place })
     }
-    Verdict::Refused { number, place }
+}
+
+// A question asked of each of so many places, from 0: a refusal with the number, from 1, of the first place where the answer is no.
+pub fn ask_each<F: Fn(usize) -> bool>(number: u8, n: usize, answer: F) -> Result<(), Refusal>
+    requires callable { (i : ℕ) → i < n → F.pre answer i }
+    ensures { (holds : ℕ → Bool)
+        → ((i : ℕ) (b : Bool) → i < n → F.post answer i b → b ≡ holds (i + 1))
+        → result ≡ ask_each holds number n Passed }
+{
+    for i in 0..n {
+        if !answer(i) {
+            return Err(Refusal {
+                number,
+                place: i + 1,
+            });
+        }
+    }
+    Ok(())
 }
 
 // The byte at a place, 0 past the end.
@@ -61,7 +69,7 @@ pub fn number(s: &[u8], at: usize) -> u16
     if s.len() <= at {
         return 0;
     }
-    byte(s, at) as u16 * 256 + byte(s, at + 1) as u16
+    u16::from_be_bytes([byte(s, at), byte(s, at + 1)])
 }
 
 // Whether the byte at a place is from low to high.
@@ -69,8 +77,7 @@ pub fn number(s: &[u8], at: usize) -> u16
 pub fn byte_in(s: &[u8], at: usize, low: u8, high: u8) -> bool
     ensures { result ≡ byte_in s.now at low high }
 {
-    let x = byte(s, at);
-    (low <= x) & (x <= high)
+    (low..=high).contains(&byte(s, at))
 }
 
 // Whether the number at a place is from low to high.
@@ -78,8 +85,7 @@ pub fn byte_in(s: &[u8], at: usize, low: u8, high: u8) -> bool
 pub fn number_in(s: &[u8], at: usize, low: u16, high: u16) -> bool
     ensures { result ≡ number_in s.now at low high }
 {
-    let x = number(s, at);
-    (low <= x) & (x <= high)
+    (low..=high).contains(&number(s, at))
 }
 
 // Where the field at a place ends: it fits the file where that is no more than the file's length.

@@ -1,7 +1,7 @@
 // Needed greens, saturation flows and flow ratios of the annex, section 2 (document 01, "Needs and flows").
 #![tactic(auto)]
 
-ghost use Rattle.std.specs.Prelude.{◌≡◌, ◌-◌, ◌^◌, min};
+ghost use Rattle.std.specs.Prelude.{◌≡◌, ◌^◌};
 ghost use Rattle.flows.specs.Needs.{need_at, tram_need, longest_cycle, pedestrian_need, crossing_speed, disturbance, island_need};
 ghost use Rattle.flows.specs.Saturation.{straight_flow, turning_flow, base_flow, gradient_percent, conditions_percent};
 ghost use Rattle.flows.specs.Saturation.{turn_divisor, saturation_flow, flow_ratio};
@@ -47,20 +47,7 @@ const TABLE3: [u16; 20] = [
 pub fn longest_cycle(hourly: u8) -> u16
     ensures { result ≡ longest_cycle hourly }
 {
-    TABLE3[table3_column(hourly)]
-}
-
-fn table3_column(hourly: u8) -> usize
-    ensures { result ≡ min (hourly - 15) 19 }
-{
-    if hourly < 15 {
-        return 0;
-    }
-    if hourly < 34 {
-        hourly as usize - 15
-    } else {
-        19
-    }
+    TABLE3[(hourly as usize).saturating_sub(15).min(19)]
 }
 
 // Formulas (38) to (40). The 3 s of a disturbed crossing go into the quotient as the way that pedestrians walk in them.
@@ -70,8 +57,7 @@ fn pedestrian_need(p: PedestrianFigures) -> u32
 {
     let speed = crossing_speed(p);
     let way = p.crossing as u32 + disturbance(p) * speed;
-    let green = laws::u64_larger(6, laws::div_up(way, speed) as u64);
-    green as u32
+    laws::div_up(way, speed).max(6)
 }
 
 // Formulas (38) to (40) with (39'): at least what the crossing needs without the island.
@@ -81,8 +67,7 @@ fn island_need(i: IslandFigures) -> u32
 {
     let walk = i.walk;
     let way = i.wider as u32 + i.island as u32 + i.packet as u32 + disturbance(walk) * 12;
-    let green = laws::u64_larger(pedestrian_need(walk) as u64, laws::div_up(way, 12) as u64);
-    green as u32
+    pedestrian_need(walk).max(laws::div_up(way, 12))
 }
 
 // In dm/s, formula (39): 12, or 16 where the time is 0.75 of that.
@@ -90,10 +75,11 @@ fn island_need(i: IslandFigures) -> u32
 fn crossing_speed(p: PedestrianFigures) -> u32
     ensures { Bounded (crossing_speed p) 17 result }
 {
-    if p.crossing > 120 {
-        return 16;
+    if p.crossing > 120 || p.hourly <= 120 {
+        16
+    } else {
+        12
     }
-    if p.hourly <= 120 { 16 } else { 12 }
 }
 
 // Formula (40), in seconds.
@@ -142,7 +128,7 @@ fn turning_flow(radius: u16, rows: u8) -> u32
 }
 
 // Formulas (20) to (22).
-#[tactic(auto, unfolding(crate::specs::Saturation::base_flow))]
+#[tactic(auto, using(crate::specs::lemmas::Bounds::straight_small, crate::specs::lemmas::Bounds::turning_small), unfolding(crate::specs::Saturation::base_flow))]
 fn base_flow(c: CarFigures) -> u32
     ensures { Bounded (base_flow c) (2 ^ 19) result }
 {
@@ -158,7 +144,7 @@ fn base_flow(c: CarFigures) -> u32
 fn gradient_percent(gradient: u8) -> u64
     ensures { Bounded (gradient_percent gradient) 131 result }
 {
-    laws::above(130, 3 * gradient as u64)
+    130u64.saturating_sub(3 * gradient as u64)
 }
 
 // Table 2 in hundredths.
@@ -166,10 +152,11 @@ fn gradient_percent(gradient: u8) -> u64
 fn conditions_percent(conditions: u8) -> u64
     ensures { Bounded (conditions_percent conditions) 121 result }
 {
-    if conditions == 1 {
-        return 120;
+    match conditions {
+        1 => 120,
+        2 => 100,
+        _ => 85,
     }
-    if conditions == 2 { 100 } else { 85 }
 }
 
 // 400 / Kturn of formulas (24) to (26).
@@ -183,13 +170,13 @@ fn turn_divisor(left: u8, right: u8) -> u64
     if turning < 10 {
         return 400;
     }
-    4 * laws::above(100, turning) + 7 * left + 5 * right
+    4 * 100u64.saturating_sub(turning) + 7 * left + 5 * right
 }
 
 // The saturation flow of a car stream in E/h, formula (28): the base flow is rounded down, and its product with the factors once.
 // Of numbers that no file holds, a straight width below 300 and a gradient field above 43 give 0, rows other than 2 count as 1,
 // conditions other than 1 and 2 count as 3, and shares above 100 in all leave none straight.
-#[tactic(auto, unfolding(crate::specs::Saturation::saturation_flow))]
+#[tactic(auto, using(crate::specs::lemmas::Bounds::turn_positive), unfolding(crate::specs::Saturation::saturation_flow))]
 pub fn saturation_flow(c: CarFigures) -> u32
     ensures { result ≡ saturation_flow c }
 {

@@ -4,9 +4,7 @@ use Rattle.std.specs.Prelude.{ℕ, true, List, ◌↔◌, ◌≡◌}
 use Rattle.std.proofs.Common.{arith}
 use Rattle.std.proofs.Math.Path.{refl}
 use Rattle.fields.specs.lemmas.Numbers.{Numbered, ask_numbered, passed_number}
-use Rattle.fields.specs.Verdict.{is_refused, ask, first_refusal, both_passed}
-use Rattle.fields.specs.declared.Verdict.{Verdict}
-use Rattle.fields.specs.declared.Verdict.TheVariants.{Passed}
+use Rattle.fields.specs.Verdict.{is_refused, ask, first_refusal, both_passed, Verdict, Passed}
 use Rattle.junction_questions.specs.Questions.{count_refers}
 use Rattle.junction_places.specs.Places.{exists}
 use Rattle.junction_file.specs.Reading.{reading}

@@ -1,3 +1,4 @@
 pub mod Answered
 pub mod Chosen
 pub mod FileDays
+pub mod Worked

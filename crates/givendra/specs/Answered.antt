@@ -1,12 +1,10 @@
 -- What the C library's numbers say: refusal 0 exactly where nothing is refused, and the figure itself then; every other number 0 where
 -- something is refused.
-use Rattle.std.specs.Prelude.{ℕ, ◌<◌, Bool, true, List, ◌↔◌, ◌≡◌}
+use Rattle.std.specs.Prelude.{ℕ, ◌<◌, Bool, true, List, ◌↔◌, ◌≡◌, Ok, Err}
 use Rattle.std.proofs.Math.Path.{refl}
 use Rattle.fields.specs.Bytes.{number_at}
 use Rattle.fields.specs.lemmas.Numbers.{Numbered, first_numbered}
-use Rattle.fields.specs.Verdict.{ask, ask_passed, first_refusal}
-use Rattle.fields.specs.declared.Verdict.{Verdict}
-use Rattle.fields.specs.declared.Verdict.TheVariants.{Passed}
+use Rattle.fields.specs.Verdict.{ask, ask_passed, first_refusal, Verdict, Passed}
 use Rattle.junction_questions.specs.Questions.{count_refers}
 use Rattle.junction_file.proofs.Numbers.{reading_numbered}
 use Rattle.junction_file.specs.Reading.{reading}
@@ -15,10 +13,8 @@ use Rattle.plan_judge.specs.Judgement.{judgement}
 use Rattle.plan_judge.proofs.Numbers.{number_accepted}
 use Rattle.offsets.proofs.Refused.{shift_passed, shift_number}
 use Rattle.service_level.specs.Delays.{whole}
-use Rattle.delays.specs.Answer.{answer, refusal, told_outcome, told_value, told_letter}
+use Rattle.delays.specs.Answer.{answer, refusal, told_outcome, told_value, told_letter, Delayed}
 use Rattle.delays.proofs.Refused.{delay_refused}
-use Rattle.delays.specs.declared.Delayed.{Delayed}
-use Rattle.delays.specs.declared.Delayed.TheVariants as delayed
 use Rattle.givendra.specs.Answers.{answer_of, judge_answer, shift_answer, delay_answer}
 
 -- the plan is accepted exactly where the judge's refusal is 0
@@ -54,8 +50,8 @@ module _ (junction plan : List ℕ) (n : ℕ) where
 
   nothing : (x : Delayed) → (refusal x ≡ 0 → ⊥) → (told_outcome x ≡ 0) × (told_letter x ≡ 0) × (told_value x ≡ whole 0)
   unfolding refusal told_outcome told_letter told_value
-  nothing (delayed.Refused number place) some = (refl, refl, refl)
-  nothing (delayed.Told service level) some = absurd (some refl)
+  nothing (Err r) some = (refl, refl, refl)
+  nothing (Ok t) some = absurd (some refl)
 
   -- where something is refused, no outcome, no level and no value
   pub delay_nothing : ((delay_answer junction plan n).refusal ≡ 0 → ⊥)

@@ -1,8 +1,8 @@
 -- The answers to programs in other languages: the paper's number and place of the verdict, and the figures, 0 where something is refused.
-use Rattle.std.specs.Prelude.{ℕ, cond, List}
-use Rattle.fields.specs.Verdict.{number_of, place_of, is_refused, ask, first_refusal}
-use Rattle.fields.specs.declared.Verdict.{Verdict}
-use Rattle.fields.specs.declared.Verdict.TheVariants.{Passed}
+use Rattle.planner.specs.declared.WorkedOut.{WorkedOut}
+use Rattle.fields.specs.declared.Refusal.{Refusal}
+use Rattle.std.specs.Prelude.{ℕ, cond, List, Result, Ok, Err}
+use Rattle.fields.specs.Verdict.{number_of, place_of, is_refused, ask, first_refusal, Verdict, Passed}
 use Rattle.junction.specs.declared.Junction.{Junction}
 use Rattle.junction_questions.specs.Questions.{count_refers}
 use Rattle.junction_places.specs.Places.{exists}
@@ -15,8 +15,8 @@ use Rattle.planner.specs.WorkingOut.{worked}
 use Rattle.service_level.specs.Delays.{outcome, value, letter}
 use Rattle.service_level.specs.declared.Service.{Service}
 use Rattle.service_level.specs.declared.Level.{Level}
-use Rattle.delays.specs.Answer.{answer, refusal, refused_at, told_outcome, told_value, told_letter}
-use Rattle.roadworks.specs.Roadworks.{portable, refusal as portable_refusal, refused_at as portable_at, figures as portable_figures}
+use Rattle.delays.specs.Answer.{answer, refusal, refused_at, told_outcome, told_value, told_letter, Delayed}
+use Rattle.roadworks.specs.Roadworks.{portable, refusal as portable_refusal, refused_at as portable_at, figures as portable_figures, Portable}
 use Rattle.roadworks.specs.declared.Approach.{Approach}
 use Rattle.roadworks.specs.declared.Timing.{Timing}
 use Rattle.givendra.specs.declared.JudgeAnswer.{JudgeAnswer}
@@ -42,7 +42,12 @@ judge_answer junction plan = answer_of (judgement junction plan)
 unfoldable pub shift_answer : List ℕ → List ℕ → ℕ → JudgeAnswer
 shift_answer junction plan offset = answer_of (shift_verdict junction plan offset)
 
--- what is worked out, with a buffer of so many bytes
+-- what is worked out, or the refusal, with 0 for the three numbers
+abbrev pub worked_answer : Result WorkedOut Refusal → PlanAnswer
+worked_answer (Ok w) = record { place = 0; refusal = 0; cycle = w.cycle; tried = w.tried; size = w.size }
+worked_answer (Err r) = record { place = r.place; refusal = r.number; cycle = 0; tried = 0; size = 0 }
+
+-- with a buffer of so many bytes
 unfoldable pub plan_answer : List ℕ → ℕ → PlanAnswer
 plan_answer junction size =
     record {
@@ -56,6 +61,21 @@ plan_answer junction size =
 -- a number of the junction, 0 where the file is refused
 abbrev unless_refused : Verdict → ℕ → ℕ
 unless_refused v x = cond (is_refused v) 0 x
+
+-- what a junction that is taken holds, or the refusal, with 0 for each number
+abbrev pub read_answer : Result Junction Refusal → JunctionAnswer
+read_answer (Ok j) =
+    record {
+      place = 0;
+      refusal = 0;
+      design_day = j.day;
+      period = j.period;
+      streams = j.held.streams;
+      zones = j.held.zones;
+      counts = j.held.counts;
+    }
+read_answer (Err r) =
+    record { place = r.place; refusal = r.number; design_day = 0; period = 0; streams = 0; zones = 0; counts = 0 }
 
 -- what a junction file holds
 unfoldable pub junction_answer : List ℕ → JunctionAnswer
@@ -114,6 +134,10 @@ ratio_answer junction n =
 abbrev pub told_answer : Service → Level → DelayAnswer
 told_answer s l = record { place = 0; refusal = 0; outcome = outcome s; level = letter l; value = value s }
 
+abbrev pub answer_of_delay : Delayed → DelayAnswer
+answer_of_delay x =
+    record { place = refused_at x; refusal = refusal x; outcome = told_outcome x; level = told_letter x; value = told_value x }
+
 -- the delay of a stream: the refusal's number and place, the number and the value of what is told, and the level's letter
 unfoldable pub delay_answer : List ℕ → List ℕ → ℕ → DelayAnswer
 delay_answer junction plan n =
@@ -142,6 +166,9 @@ portable_by number at x =
 
 abbrev pub timed_answer : Timing → PortableAnswer
 timed_answer x = portable_by 0 0 x
+
+abbrev pub answer_of_portable : Portable → PortableAnswer
+answer_of_portable x = portable_by (portable_refusal x) (portable_at x) (portable_figures x)
 
 unfoldable pub portable_answer : ℕ → ℕ → Approach → Approach → PortableAnswer
 portable_answer stretch speed a b =

@@ -2,8 +2,7 @@
 -- list.
 use Rattle.std.specs.Prelude.{ℕ, List, leb, length, get_or}
 use Rattle.laws.specs.Largest.{largest_of}
-use Rattle.fields.specs.Verdict.{ask}
-use Rattle.fields.specs.declared.Verdict.TheVariants.{Passed}
+use Rattle.fields.specs.Verdict.{ask, Passed}
 use Rattle.counts.specs.Newest.{rank, rank_flow}
 use Rattle.counts.specs.declared.Count.{Count}
 use Rattle.counts.specs.declared.Wanted.{Wanted}

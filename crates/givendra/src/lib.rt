@@ -1,20 +1,25 @@
-// The library for programs in other languages (include/givendra.h): every answer but the release is a struct of numbers. A refusal's number is
-// 0 where nothing is refused, and the other numbers are 0 where something is.
+// The library for programs in other languages (include/givendra.h): every answer but the release is a struct of numbers, since C reads it. A refusal's
+// number is 0 where nothing is refused, and the other numbers are 0 where something is.
 #![tactic(auto)]
 
-ghost use Rattle.std.specs.Prelude.{◌≡◌, max, length};
+ghost use Rattle.std.specs.Prelude.{◌≡◌, ℕ, max, length};
+ghost use Rattle.fields.specs.declared.Refusal.{Refusal};
+ghost use Rattle.fields.specs.Verdict.{Verdict, first_refusal};
+ghost use Rattle.junction.specs.declared.Junction.{Junction};
+ghost use Rattle.junction_file.specs.Reading.{reading};
 ghost use Rattle.offsets.specs.Shifting.{shifted_plan};
 ghost use Rattle.planner.specs.WorkingOut.{buffer as buffer_after};
-ghost use Rattle.givendra.specs.Answers.{release, answer_of, judge_answer, plan_answer, junction_answer, figure as figure_of, intergreen_verdict, intergreen_answer, need_verdict, need_answer, car_verdict, saturation_answer, ratio_answer};
-ghost use Rattle.givendra.specs.Answers.{told_answer, delay_answer, shift_answer, timed_answer, portable_answer};
+ghost use Rattle.givendra.specs.Answers.{release, answer_of, judge_answer, worked_answer, plan_answer, read_answer, junction_answer, figure as figure_of, intergreen_verdict, intergreen_answer, need_verdict, need_answer, car_verdict, saturation_answer, ratio_answer};
+ghost use Rattle.givendra.specs.Answers.{answer_of_delay, told_answer, delay_answer, shift_answer, answer_of_portable, timed_answer, portable_answer};
 ghost use Rattle.givendra.specs.LentList.{wanted, record_rank, newest_answer, newest_figure};
 
 use counts::{Count, Wanted};
-use delays::Delayed;
-use fields::{Verdict, ask};
+use delays::Told;
+use fields::{Refusal, ask};
 use junction::Junction;
-use roadworks::{Approach, Portable, Timing};
-use service_level::{Level, Service};
+use planner::WorkedOut;
+use roadworks::{Approach, Timing};
+use service_level::Service;
 
 // A refusal's place and number, 0 and 0 where nothing is refused: the judge's answer, and that of a shift.
 #[repr(C)]
@@ -82,22 +87,24 @@ pub extern "C" fn givendra_release() -> u32
 pub extern "C" fn givendra_judge(junction: &[u8], plan: &[u8]) -> JudgeAnswer
     ensures { result ≡ judge_answer junction.now plan.now }
 {
-    answer_of(plan_judge::judge(junction, plan))
+    JudgeAnswer::from(plan_judge::judge(junction, plan))
 }
 
-#[tactic(auto, unfolding(crate::specs::Answers::answer_of))]
-fn answer_of(v: Verdict) -> JudgeAnswer
-    ensures { result ≡ answer_of v }
-{
-    match v {
-        Verdict::Passed => JudgeAnswer {
-            place: 0,
-            refusal: 0,
-        },
-        Verdict::Refused { number, place } => JudgeAnswer {
-            place,
-            refusal: number,
-        },
+impl From<Result<(), Refusal>> for JudgeAnswer {
+    ghost from_gives = { λ v r. r ≡ answer_of v };
+
+    #[tactic(auto, unfolding(crate::specs::Answers::answer_of))]
+    fn from(v: Result<(), Refusal>) -> JudgeAnswer {
+        match v {
+            Ok(()) => JudgeAnswer {
+                place: 0,
+                refusal: 0,
+            },
+            Err(r) => JudgeAnswer {
+                place: r.place,
+                refusal: r.number,
+            },
+        }
     }
 }
 
@@ -108,7 +115,7 @@ pub extern "C" fn givendra_shift(junction: &[u8], plan: &mut [u8], offset: usize
     ensures result { result ≡ shift_answer junction.now plan.old offset }
     ensures lent { plan.new ≡ shifted_plan junction.now plan.old offset }
 {
-    answer_of(offsets::shift(junction, plan, offset))
+    JudgeAnswer::from(offsets::shift(junction, plan, offset))
 }
 
 // Works out a plan for a junction file, and writes its plan file into the lent buffer.
@@ -118,23 +125,29 @@ pub extern "C" fn givendra_work_out(junction: &[u8], buffer: &mut [u8]) -> PlanA
     ensures result { result ≡ plan_answer junction.now (length buffer.old) }
     ensures lent { buffer.new ≡ buffer_after junction.now buffer.old }
 {
-    let worked = planner::work_out(junction, buffer);
-    let verdict = worked.verdict;
-    match verdict {
-        Verdict::Passed => PlanAnswer {
-            place: 0,
-            refusal: 0,
-            cycle: worked.cycle,
-            tried: worked.tried,
-            size: worked.size,
-        },
-        Verdict::Refused { number, place } => PlanAnswer {
-            place,
-            refusal: number,
-            cycle: worked.cycle,
-            tried: worked.tried,
-            size: worked.size,
-        },
+    PlanAnswer::from(planner::work_out(junction, buffer))
+}
+
+impl From<Result<WorkedOut, Refusal>> for PlanAnswer {
+    ghost from_gives = { λ v r. r ≡ worked_answer v };
+
+    fn from(v: Result<WorkedOut, Refusal>) -> PlanAnswer {
+        match v {
+            Ok(worked) => PlanAnswer {
+                place: 0,
+                refusal: 0,
+                cycle: worked.cycle,
+                tried: worked.tried,
+                size: worked.size,
+            },
+            Err(r) => PlanAnswer {
+                place: r.place,
+                refusal: r.number,
+                cycle: 0,
+                tried: 0,
+                size: 0,
+            },
+        }
     }
 }
 
@@ -144,46 +157,70 @@ pub extern "C" fn givendra_work_out(junction: &[u8], buffer: &mut [u8]) -> PlanA
 pub extern "C" fn givendra_read_junction(junction: &[u8]) -> JunctionAnswer
     ensures { result ≡ junction_answer junction.now }
 {
-    let reading = junction_file::read(junction);
-    let j = reading.junction;
-    let verdict = reading.verdict;
-    match verdict {
-        Verdict::Passed => JunctionAnswer {
-            place: 0,
-            refusal: 0,
-            design_day: j.day,
-            period: j.period,
-            streams: j.held.streams,
-            zones: j.held.zones,
-            counts: j.held.counts,
-        },
-        Verdict::Refused { number, place } => JunctionAnswer {
-            place,
-            refusal: number,
-            design_day: 0,
-            period: 0,
-            streams: 0,
-            zones: 0,
-            counts: 0,
-        },
+    JunctionAnswer::from(junction_file::read(junction))
+}
+
+impl From<Result<Junction, Refusal>> for JunctionAnswer {
+    ghost from_gives = { λ v r. r ≡ read_answer v };
+
+    fn from(v: Result<Junction, Refusal>) -> JunctionAnswer {
+        match v {
+            Ok(j) => JunctionAnswer {
+                place: 0,
+                refusal: 0,
+                design_day: j.day,
+                period: j.period,
+                streams: j.held.streams,
+                zones: j.held.zones,
+                counts: j.held.counts,
+            },
+            Err(r) => JunctionAnswer {
+                place: r.place,
+                refusal: r.number,
+                design_day: 0,
+                period: 0,
+                streams: 0,
+                zones: 0,
+                counts: 0,
+            },
+        }
     }
 }
 
 #[tactic(auto, unfolding(crate::specs::Answers::figure))]
-fn figure_of(v: Verdict, value: u32) -> Figure
+fn figure_of(v: Result<(), Refusal>, value: u32) -> Figure
     ensures { result ≡ figure_of v value }
 {
     match v {
-        Verdict::Passed => Figure {
+        Ok(()) => Figure {
             place: 0,
             refusal: 0,
             value,
         },
-        Verdict::Refused { number, place } => Figure {
-            place,
-            refusal: number,
+        Err(r) => Figure {
+            place: r.place,
+            refusal: r.number,
             value: 0,
         },
+    }
+}
+
+// A figure of a junction file: the file's refusal, else that of what is asked of the junction, else the value.
+fn figure_in<V: Fn(Junction) -> Result<(), Refusal>, X: Fn(Junction) -> u32>(
+    junction: &[u8],
+    asked: V,
+    value: X,
+) -> Figure
+    requires asked { (j : Junction) → V.pre asked j }
+    requires value { (j : Junction) → X.pre value j }
+    ensures { (verdict : Junction → Verdict) (of : Junction → ℕ)
+        → ((j : Junction) (v : Verdict) → V.post asked j v → v ≡ verdict j)
+        → ((j : Junction) (x : ℕ) → X.post value j x → x ≡ of j)
+        → result ≡ figure_of (first_refusal (reading junction.now).verdict (verdict (reading junction.now).junction)) (of (reading junction.now).junction) }
+{
+    match junction_file::read(junction) {
+        Ok(j) => figure_of(asked(j), value(j)),
+        Err(r) => figure_of(Err(r), 0),
     }
 }
 
@@ -193,22 +230,19 @@ fn figure_of(v: Verdict, value: u32) -> Figure
 pub extern "C" fn givendra_intergreen(junction: &[u8], from: usize, to: usize) -> Figure
     ensures { result ≡ intergreen_answer junction.now from to }
 {
-    let reading = junction_file::read(junction);
-    let j = reading.junction;
-    let verdict = reading.verdict;
-    let own = intergreen_verdict(j, from, to);
-    figure_of(
-        fields::first_refusal(verdict, own),
-        junction_figures::pair_entry(j, from, to) as u32,
+    figure_in(
+        junction,
+        |j| intergreen_verdict(j, from, to),
+        |j| junction_figures::pair_entry(j, from, to) as u32,
     )
 }
 
 #[tactic(auto, unfolding(crate::specs::Answers::intergreen_verdict))]
-fn intergreen_verdict(j: Junction, from: usize, to: usize) -> Verdict
+fn intergreen_verdict(j: Junction, from: usize, to: usize) -> Result<(), Refusal>
     ensures { result ≡ intergreen_verdict j from to }
 {
-    let second = ask(junction_places::exists(j, to), 7, to, Verdict::Passed);
-    ask(junction_places::exists(j, from), 7, from, second)
+    ask(junction_places::exists(j, from), 7, from)?;
+    ask(junction_places::exists(j, to), 7, to)
 }
 
 // The needed green of a stream at a cycle, both in seconds.
@@ -217,22 +251,19 @@ fn intergreen_verdict(j: Junction, from: usize, to: usize) -> Verdict
 pub extern "C" fn givendra_need(junction: &[u8], stream: usize, cycle: u16) -> Figure
     ensures { result ≡ need_answer junction.now stream cycle }
 {
-    let reading = junction_file::read(junction);
-    let j = reading.junction;
-    let verdict = reading.verdict;
-    let own = need_verdict(j, stream, cycle);
-    figure_of(
-        fields::first_refusal(verdict, own),
-        junction_figures::stream_need(j, stream, cycle),
+    figure_in(
+        junction,
+        |j| need_verdict(j, stream, cycle),
+        |j| junction_figures::stream_need(j, stream, cycle),
     )
 }
 
 #[tactic(auto, unfolding(crate::specs::Answers::need_verdict))]
-fn need_verdict(j: Junction, stream: usize, cycle: u16) -> Verdict
+fn need_verdict(j: Junction, stream: usize, cycle: u16) -> Result<(), Refusal>
     ensures { result ≡ need_verdict j stream cycle }
 {
-    let second = ask(plan_file::cycle_in_range(cycle), 13, 0, Verdict::Passed);
-    ask(junction_places::exists(j, stream), 7, stream, second)
+    ask(junction_places::exists(j, stream), 7, stream)?;
+    ask(plan_file::cycle_in_range(cycle), 13, 0)
 }
 
 // The saturation flow of a car stream, in E/h.
@@ -241,13 +272,10 @@ fn need_verdict(j: Junction, stream: usize, cycle: u16) -> Verdict
 pub extern "C" fn givendra_saturation_flow(junction: &[u8], stream: usize) -> Figure
     ensures { result ≡ saturation_answer junction.now stream }
 {
-    let reading = junction_file::read(junction);
-    let j = reading.junction;
-    let verdict = reading.verdict;
-    let own = car_verdict(j, stream);
-    figure_of(
-        fields::first_refusal(verdict, own),
-        junction_figures::stream_saturation(j, stream),
+    figure_in(
+        junction,
+        |j| car_verdict(j, stream),
+        |j| junction_figures::stream_saturation(j, stream),
     )
 }
 
@@ -257,53 +285,52 @@ pub extern "C" fn givendra_saturation_flow(junction: &[u8], stream: usize) -> Fi
 pub extern "C" fn givendra_flow_ratio(junction: &[u8], stream: usize) -> Figure
     ensures { result ≡ ratio_answer junction.now stream }
 {
-    let reading = junction_file::read(junction);
-    let j = reading.junction;
-    let verdict = reading.verdict;
-    let own = car_verdict(j, stream);
-    figure_of(
-        fields::first_refusal(verdict, own),
-        junction_figures::stream_ratio(j, stream),
+    figure_in(
+        junction,
+        |j| car_verdict(j, stream),
+        |j| junction_figures::stream_ratio(j, stream),
     )
 }
 
 #[tactic(auto, unfolding(crate::specs::Answers::car_verdict))]
-fn car_verdict(j: Junction, stream: usize) -> Verdict
+fn car_verdict(j: Junction, stream: usize) -> Result<(), Refusal>
     ensures { result ≡ car_verdict j stream }
 {
-    ask(
-        junction_questions::count_refers(j, stream),
-        7,
-        stream,
-        Verdict::Passed,
-    )
+    ask(junction_questions::count_refers(j, stream), 7, stream)
 }
 
 // The delay and the level of service of a car stream in a plan.
-#[tactic(auto, unfolding(crate::specs::Answers::delay_answer, delays::specs::Answer::refusal, delays::specs::Answer::refused_at, delays::specs::Answer::told_outcome, delays::specs::Answer::told_value, delays::specs::Answer::told_letter))]
+#[tactic(auto, unfolding(crate::specs::Answers::delay_answer))]
 #[unsafe(no_mangle)]
 pub extern "C" fn givendra_delay(junction: &[u8], plan: &[u8], stream: usize) -> DelayAnswer
     ensures { result ≡ delay_answer junction.now plan.now stream }
 {
-    let answer = delays::delay(junction, plan, stream);
-    match answer {
-        Delayed::Refused { number, place } => DelayAnswer {
-            place,
-            refusal: number,
-            outcome: 0,
-            level: 0,
-            value: 0.0,
-        },
-        Delayed::Told { service, level } => told_answer(service, level),
+    DelayAnswer::from(delays::delay(junction, plan, stream))
+}
+
+impl From<Result<Told, Refusal>> for DelayAnswer {
+    ghost from_gives = { λ v r. r ≡ answer_of_delay v };
+
+    fn from(v: Result<Told, Refusal>) -> DelayAnswer {
+        match v {
+            Ok(told) => told_answer(told),
+            Err(r) => DelayAnswer {
+                place: r.place,
+                refusal: r.number,
+                outcome: 0,
+                level: 0,
+                value: 0.0,
+            },
+        }
     }
 }
 
 #[tactic(auto, unfolding(service_level::specs::Delays::outcome, service_level::specs::Delays::value))]
-fn told_answer(service: Service, level: Level) -> DelayAnswer
-    ensures { result ≡ told_answer service level }
+fn told_answer(told: Told) -> DelayAnswer
+    ensures { result ≡ told_answer told.service told.level }
 {
-    let letter = service_level::letter(level);
-    match service {
+    let letter = service_level::letter(told.level);
+    match told.service {
         Service::Delay(d) => DelayAnswer {
             place: 0,
             refusal: 0,
@@ -345,7 +372,7 @@ pub struct PortableAnswer {
 }
 
 // Works out portable signals for a stretch in metres, a speed in km/h and two approaches.
-#[tactic(auto, unfolding(crate::specs::Answers::portable_answer, roadworks::specs::Roadworks::refusal, roadworks::specs::Roadworks::refused_at, roadworks::specs::Roadworks::figures))]
+#[tactic(auto, unfolding(crate::specs::Answers::portable_answer))]
 #[unsafe(no_mangle)]
 pub extern "C" fn givendra_portable(
     stretch: usize,
@@ -355,20 +382,28 @@ pub extern "C" fn givendra_portable(
 ) -> PortableAnswer
     ensures { result ≡ portable_answer stretch speed first second }
 {
-    let answer = roadworks::work_out(stretch, speed, first, second);
-    match answer {
-        Portable::Refused { number, place } => PortableAnswer {
-            place,
-            refusal: number,
-            clearing_time: 0,
-            lost_time: 0,
-            cycle: 0,
-            first_start: 0,
-            first_length: 0,
-            second_start: 0,
-            second_length: 0,
-        },
-        Portable::Timed(timing) => timed_answer(timing),
+    PortableAnswer::from(roadworks::work_out(stretch, speed, first, second))
+}
+
+impl From<Result<Timing, Refusal>> for PortableAnswer {
+    ghost from_gives = { λ v r. r ≡ answer_of_portable v };
+
+    #[tactic(auto, unfolding(roadworks::specs::Roadworks::refusal, roadworks::specs::Roadworks::refused_at, roadworks::specs::Roadworks::figures))]
+    fn from(v: Result<Timing, Refusal>) -> PortableAnswer {
+        match v {
+            Ok(timing) => timed_answer(timing),
+            Err(r) => PortableAnswer {
+                place: r.place,
+                refusal: r.number,
+                clearing_time: 0,
+                lost_time: 0,
+                cycle: 0,
+                first_start: 0,
+                first_length: 0,
+                second_start: 0,
+                second_length: 0,
+            },
+        }
     }
 }
 
@@ -429,10 +464,8 @@ pub extern "C" fn givendra_newest_count(
     ensures { result ≡ newest_answer list.now (wanted stream design_day period) }
 {
     let mut best: u32 = 0;
-    let mut place: usize = 0;
-    while place < list.len() {
+    for place in 0..list.len() {
         best = newer_record(best, stream, design_day, period, list[place]);
-        place += 1;
     }
     newest_figure(stream, best)
 }
@@ -441,8 +474,5 @@ pub extern "C" fn givendra_newest_count(
 fn newest_figure(stream: usize, rank: u32) -> Figure
     ensures { result ≡ newest_figure stream rank }
 {
-    figure_of(
-        ask(1 <= rank, 9, stream, Verdict::Passed),
-        counts::flow(rank) as u32,
-    )
+    figure_of(ask(1 <= rank, 9, stream), counts::flow(rank) as u32)
 }

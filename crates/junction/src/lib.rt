@@ -29,6 +29,7 @@ pub struct Zone {
 }
 
 // How many of each a file has, and the tag of its last field so far, 0 before the first.
+// The tag stays a number, 0 for none: the theorems of `FieldsRight` are stated of it.
 #[derive(Clone, Copy)]
 pub struct Held {
     pub last: u8,
@@ -37,6 +38,7 @@ pub struct Held {
     pub counts: usize,
 }
 
+// Stays numbers beside arrays of fixed room: the project has no heap.
 #[derive(Clone, Copy)]
 pub struct Junction {
     // The design day, and the period that is planned.
@@ -46,13 +48,6 @@ pub struct Junction {
     pub streams: [Stream; MOST_STREAMS],
     pub zones: [Zone; MOST_ZONES],
     pub counts: [Count; MOST_COUNTS],
-}
-
-// The answer to a junction file: what the questions give, and the junction, to be used only where nothing is refused.
-#[derive(Clone, Copy)]
-pub struct Reading {
-    pub verdict: fields::Verdict,
-    pub junction: Junction,
 }
 
 // The design day of a heading's body.

@@ -14,7 +14,7 @@ use Rattle.laws.proofs.Search.{first_passes, first_fails}
 use Rattle.laws.specs.Tests.{by_test}
 use Rattle.limits.specs.Limits.{most_streams, most_zones, most_counts}
 use Rattle.fields.specs.Bytes.{byte_at, fits_within}
-use Rattle.fields.specs.declared.Verdict.TheVariants.{Passed}
+use Rattle.fields.specs.Verdict.{Passed}
 use Rattle.junction.specs.declared.Junction.{Junction}
 use Rattle.junction.specs.Layout.{design_day, planned_period, count_in_range}
 use Rattle.junction_places.specs.Blank.{blank}

@@ -3,7 +3,7 @@
 use Rattle.std.specs.Prelude.{ℕ, ◌+◌, ◌-◌, true, List, ◌≡◌}
 use Rattle.std.proofs.Common.{arith, sym, ◌∙◌}
 use Rattle.laws.specs.Ranges.{Between}
-use Rattle.fields.specs.declared.Verdict.TheVariants.{Passed}
+use Rattle.fields.specs.Verdict.{Passed}
 use Rattle.counts.specs.Newest.{rank_flow}
 use Rattle.junction_questions.specs.Questions.{count_refers}
 use Rattle.junction_places.specs.Ranks.{newest_rank}

@@ -10,8 +10,7 @@ use borrow.Author.Tests.{leb-true}
 use Rattle.laws.specs.Ranges.{Between}
 use Rattle.limits.specs.Limits.{least_flow, greatest_flow, least_period, greatest_period}
 use Rattle.fields.specs.Bytes.{byte_at, number_at, byte_in, number_in, fits, fits_within}
-use Rattle.fields.specs.Verdict.{is_refused}
-use Rattle.fields.specs.declared.Verdict.TheVariants.{Passed}
+use Rattle.fields.specs.Verdict.{is_refused, Passed}
 use Rattle.counts.specs.declared.Count.{Count}
 use Rattle.streams.specs.declared.Stream.{Stream}
 use Rattle.junction.specs.declared.Junction.{Junction}

@@ -2,15 +2,13 @@
 #![tactic(auto)]
 
 ghost use Rattle.std.specs.Prelude.{◌≡◌, ◌&&◌, eqb};
-ghost use Rattle.junction_figures.specs.Figures.{pair_entry, shares_at, first_shared, shares_zone, unchecked as unchecked_pair, stream_need, stream_flow, stream_day, kind_saturation, stream_saturation, stream_ratio};
+ghost use Rattle.junction_figures.specs.Figures.{entry_at, pair_entry, shares_at, first_shared, shares_zone, unchecked as unchecked_pair, stream_need, stream_flow, stream_day, kind_saturation, stream_saturation, stream_ratio};
 
-use junction::Junction;
-use laws::u16_larger;
-use limits::MOST_ZONES;
+use junction::{Junction, Zone};
 use streams::{Kind, Stream};
 
 // The entry from stream n to stream m, the largest over the zones of the pair; 0 where they share none.
-#[tactic(auto, unfolding(junction_places::specs::Places::zone_at, crate::specs::Figures::zone_entry, crate::specs::Figures::forward, crate::specs::Figures::backward, crate::specs::Figures::pair_entry))]
+#[tactic(auto, using(laws::proofs::Largest::largest_none, laws::proofs::Largest::largest_next), unfolding(junction_places::specs::Places::zone_at, crate::specs::Figures::zone_entry, crate::specs::Figures::pair_entry))]
 pub fn pair_entry(j: Junction, n: usize, m: usize) -> u16
     ensures { result ≡ pair_entry j n m }
 {
@@ -18,21 +16,29 @@ pub fn pair_entry(j: Junction, n: usize, m: usize) -> u16
     let from = junction_places::stream_numbered(j, n);
     let to = junction_places::stream_numbered(j, m);
     let mut most: u16 = 0;
-    let mut i: usize = 0;
-    while i < zones {
-        let z = if i < MOST_ZONES {
-            j.zones[i]
-        } else {
-            junction_places::no_zone()
-        };
-        if joins(n, m, z.a.stream, z.b.stream) {
-            most = u16_larger(most, times::entry(from, to, z.a.clearing, z.b.reaching));
-        } else if joins(n, m, z.b.stream, z.a.stream) {
-            most = u16_larger(most, times::entry(from, to, z.b.clearing, z.a.reaching));
-        }
-        i += 1;
+    for i in 0..zones {
+        let z = j
+            .zones
+            .get(i)
+            .copied()
+            .unwrap_or(junction_places::no_zone());
+        most = most.max(entry_at(n, m, from, to, z));
     }
     most
+}
+
+// That at one zone; 0 at a zone of other streams.
+#[tactic(auto, unfolding(crate::specs::Figures::forward, crate::specs::Figures::backward))]
+fn entry_at(n: usize, m: usize, from: Stream, to: Stream, z: Zone) -> u16
+    ensures { result ≡ entry_at n m from to z }
+{
+    if joins(n, m, z.a.stream, z.b.stream) {
+        times::entry(from, to, z.a.clearing, z.b.reaching)
+    } else if joins(n, m, z.b.stream, z.a.stream) {
+        times::entry(from, to, z.b.clearing, z.a.reaching)
+    } else {
+        0
+    }
 }
 
 // Whether x and y, the streams of a zone in one order or the other, are n and m.
@@ -57,22 +63,14 @@ pub fn unchecked(j: Junction, n: usize, m: usize) -> bool
 {
     let first = junction_places::stream_numbered(j, n);
     let second = junction_places::stream_numbered(j, m);
-    !(first.phase == second.phase) & !shares_zone(j, n, m)
+    (first.phase != second.phase) & !shares_zone(j, n, m)
 }
 
 #[tactic(auto, unfolding(crate::specs::Figures::first_shared))]
 fn first_shared(j: Junction, n: usize, m: usize) -> usize
     ensures { result ≡ first_shared j n m }
 {
-    let zones = j.held.zones;
-    let mut i: usize = 0;
-    while i < zones {
-        if shares_at(j, n, m, i) {
-            return i;
-        }
-        i += 1;
-    }
-    i
+    laws::first_in(0..j.held.zones, |i| shares_at(j, n, m, i))
 }
 
 #[tactic(auto, unfolding(crate::specs::Figures::shares_at, crate::specs::Figures::forward, crate::specs::Figures::backward))]
@@ -120,13 +118,9 @@ pub fn stream_saturation(j: Junction, n: usize) -> u32
 pub fn saturation(s: Stream) -> u32
     ensures { result ≡ kind_saturation s.kind }
 {
-    let kind = s.kind;
-    match kind {
+    match s.kind {
         Kind::Car(c) => flows::saturation_flow(c),
-        Kind::Tram(_) => 0,
-        Kind::Pedestrian(_) => 0,
-        Kind::Cyclist(_) => 0,
-        Kind::Island(_) => 0,
+        _ => 0,
     }
 }
 

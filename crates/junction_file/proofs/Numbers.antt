@@ -5,8 +5,7 @@ use Rattle.laws.specs.Tests.{by_test}
 use Rattle.limits.specs.Limits.{most_bytes}
 use Rattle.fields.specs.Bytes.{field_end}
 use Rattle.fields.specs.lemmas.Numbers.{Numbered, ask_numbered, passed_number}
-use Rattle.fields.specs.Verdict.{number_of, is_refused}
-use Rattle.fields.specs.declared.Verdict.TheVariants.{Passed}
+use Rattle.fields.specs.Verdict.{number_of, is_refused, Passed}
 use Rattle.junction.specs.declared.Junction.{Junction}
 use Rattle.junction_places.specs.Blank.{blank}
 use Rattle.junction_questions.specs.Questions.{field_verdict}

@@ -1,11 +1,12 @@
 -- The junction of a file that is taken is as Taken.antt says.
-use Rattle.std.specs.Prelude.{ℕ, List, ◌≡◌}
-use Rattle.std.proofs.Common.{arith}
+use Rattle.junction.specs.declared.Junction.{Junction}
+use Rattle.fields.specs.declared.Refusal.{Refusal}
+use Rattle.std.specs.Prelude.{ℕ, List, ◌≡◌, Result, Ok, Err, IfOk}
+use Rattle.std.proofs.Common.{arith, sym}
 use Rattle.std.proofs.Math.Bool.{and-eq-true_iff}
-use Rattle.fields.specs.Verdict.{ask_passed}
-use Rattle.fields.specs.declared.Verdict.TheVariants.{Passed}
+use Rattle.fields.specs.Verdict.{ask_passed, Passed, answered_ok}
 use Rattle.junction_questions.specs.Questions.{whole, whole_verdict}
-use Rattle.junction_file.specs.Reading.{reading}
+use Rattle.junction_file.specs.Reading.{reading, taken_or_refused}
 use Rattle.junction_file.specs.Taken.{FieldsRight, Taken}
 use Rattle.junction_file.specs.lemmas.Fields.{with_field_right, blank_right, phases_right_lem, whole_car, car_flow}
 use Rattle.junction_file.proofs.lemmas.Fields.{by_fields}
@@ -25,3 +26,10 @@ taken s v =
       car = car;
       flows = car_flow (reading s).junction eight.1;
     }
+
+-- so is a junction that is answered
+pub taken_ok : (s : List ℕ) (r : Result Junction Refusal) → r ≡ taken_or_refused (reading s) → IfOk r Taken
+taken_ok s (Ok j) e =
+    let a = answered_ok (reading s).verdict (reading s).junction (sym e) in
+    rw (← a.1) (taken s a.0)
+taken_ok s (Err r) e = tt

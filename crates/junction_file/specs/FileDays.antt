@@ -7,7 +7,7 @@ use Rattle.std.proofs.Math.Seq.{ext_get_or}
 use borrow.Author.Tests.{ltb-true, ltb-false, eqb-true, eqb-false}
 use Rattle.laws.specs.Tests.{by_test}
 use Rattle.fields.specs.Bytes.{byte_at, number_at, field_end, fits, body_of, number_in, byte_in, byte_at_past, field_long}
-use Rattle.fields.specs.declared.Verdict.TheVariants.{Passed}
+use Rattle.fields.specs.Verdict.{Passed}
 use Rattle.junction.specs.declared.Junction.{Junction}
 use Rattle.junction.specs.Layout.{count_length, count_in_range, count_of}
 use Rattle.junction_questions.specs.lemmas.Passed.{field_passed}

@@ -3,7 +3,7 @@ use Rattle.std.specs.Prelude.{ℕ, List}
 use Rattle.std.proofs.Common.{arith}
 use Rattle.fields.specs.Bytes.{byte_at, fits, body_of}
 use Rattle.fields.specs.lemmas.Numbers.{Numbered, ask_numbered}
-use Rattle.fields.specs.declared.Verdict.TheVariants.{Passed}
+use Rattle.fields.specs.Verdict.{Passed}
 use Rattle.junction.specs.declared.Junction.{Junction}
 use Rattle.junction_questions.specs.Questions.{in_order, length_right, in_range, within_limit, refers, body_verdict, named_by, field_verdict}
 

@@ -1,15 +1,22 @@
 -- The answer to a junction file, for every list of bytes (document 01, "The junction file" and "Questions in order").
-use Rattle.std.specs.Prelude.{ℕ, zero, suc, ◌+◌, cond, List, leb, ltb, length, set}
+use Rattle.std.specs.Prelude.{ℕ, zero, suc, ◌+◌, cond, List, leb, ltb, length, set, Result}
 use Rattle.fields.specs.Bytes.{byte_at, field_end, body_of}
-use Rattle.fields.specs.Verdict.{is_refused}
-use Rattle.fields.specs.declared.Verdict.{Verdict}
-use Rattle.fields.specs.declared.Verdict.TheVariants.{Refused}
+use Rattle.fields.specs.Verdict.{is_refused, answered, Verdict, Refused}
+use Rattle.fields.specs.declared.Refusal.{Refusal}
 use Rattle.junction.specs.declared.Junction.{Junction}
-use Rattle.junction.specs.declared.Reading.{Reading}
 use Rattle.junction.specs.Layout.{design_day, planned_period, stream_of, zone_of, count_of}
 use Rattle.junction_places.specs.Blank.{blank}
 use Rattle.junction_questions.specs.Questions.{by_tag, field_verdict, whole_verdict}
 use Rattle.limits.specs.Limits.{most_bytes}
+
+-- what the questions give, and the junction as far as it was read, to be used only where nothing is refused
+pub record Reading : Type 0 where
+  pub verdict : Verdict
+  pub junction : Junction
+
+-- the junction, or the refusal
+abbrev pub taken_or_refused : Reading → Result Junction Refusal
+taken_or_refused r = answered r.verdict r.junction
 
 -- the junction with one field more, by its sort
 unfoldable pub with_heading : List ℕ → Junction → Junction

@@ -1,121 +1,90 @@
 // Reads a junction file: a junction, or the first refusal of document 01's questions 1 to 9.
 #![tactic(auto)]
 
-ghost use Rattle.std.specs.Prelude.{◌≡◌, length};
+ghost use Rattle.junction_file.specs.Taken.{Taken};
+ghost use Rattle.std.specs.Prelude.{◌≡◌, true, length, IfOk};
 ghost use Rattle.junction_places.specs.Blank.{blank as blank_of};
-ghost use Rattle.junction_file.specs.lemmas.Named.{stream_place};
-ghost use Rattle.junction_file.specs.Reading.{at_end, read_from, reading};
+ghost use Rattle.junction_places.specs.Places.{stream_numbered};
+ghost use Rattle.junction_questions.specs.Questions.{within_limit};
+ghost use Rattle.junction_file.specs.Reading.{with_field, read_from, reading, taken_or_refused};
 
-use fields::Verdict;
-use junction::{Held, Junction, Reading};
+use fields::{Refusal, ask};
+use junction::{Held, Junction};
 use junction_places::no_stream;
 use limits::{MOST_BYTES, MOST_COUNTS, MOST_STREAMS, MOST_ZONES};
+use streams::Stream;
 
-// The answer to every sequence of bytes: a junction, or the first refusal with its number and place. The junction is to be used only where
-// nothing is refused.
+// The answer to every sequence of bytes: a junction, or the first refusal with its number and place.
 #[tactic(auto, unfolding(crate::specs::Reading::reading))]
-pub fn read(file: &[u8]) -> Reading
-    ensures { result ≡ reading file.now }
+pub fn read(file: &[u8]) -> Result<Junction, Refusal>
+    ensures answer { result ≡ taken_or_refused (reading file.now) }
+    ensures taken { IfOk result Taken }
 {
-    if file.len() <= MOST_BYTES {
-        return read_fields(file);
-    }
-    Reading {
-        verdict: Verdict::Refused {
-            number: 1,
-            place: 0,
-        },
-        junction: blank(),
-    }
+    ask(file.len() <= MOST_BYTES, 1, 0)?;
+    read_fields(file)
 }
 
-// The junction stays in this function: passing it on for each field would copy all of it.
-#[tactic(auto, unfolding(junction_places::specs::Places::stream_at, fields::specs::Bytes::byte_at, crate::specs::Reading::with_field, crate::specs::Reading::with_heading, junction_questions::specs::Questions::within_limit, crate::specs::Reading::with_stream, crate::specs::Reading::with_zone, crate::specs::Reading::with_count))]
-fn read_fields(file: &[u8]) -> Reading
-    ensures { result ≡ read_from (length file.now) file.now 0 blank_of }
+fn read_fields(file: &[u8]) -> Result<Junction, Refusal>
+    ensures { result ≡ taken_or_refused (read_from (length file.now) file.now 0 blank_of) }
 {
     let mut at: usize = 0;
     let mut j = blank();
+    // Stays a while: each field says where the next one begins.
     while at < file.len() {
         let end = fields::field_end(file, at);
-        if file.len() < end {
-            return Reading {
-                verdict: Verdict::Refused {
-                    number: 2,
-                    place: at,
-                },
-                junction: j,
-            };
-        }
+        ask(end <= file.len(), 2, at)?;
         let tag = file[at];
         let body = &file[at + 3..end];
-        let held = j.held;
-        let a = stream_place(fields::byte(body, 0));
-        let b = stream_place(fields::byte(body, 1));
-        let first = if a < MOST_STREAMS {
-            j.streams[a]
-        } else {
-            no_stream()
-        };
-        let second = if b < MOST_STREAMS {
-            j.streams[b]
-        } else {
-            no_stream()
-        };
-        let verdict = junction_questions::body_verdict(tag, body, at, held, first, second);
-        if fields::refused(verdict) {
-            return Reading {
-                verdict,
-                junction: j,
-            };
-        }
+        let first = stream_named(&j, fields::byte(body, 0));
+        let second = stream_named(&j, fields::byte(body, 1));
+        junction_questions::body_verdict(tag, body, at, j.held, first, second)?;
+        add_field(&mut j, tag, body);
         at = end;
-        if tag == 1 {
+    }
+    junction_questions::whole_verdict(file.len(), j)?;
+    Ok(j)
+}
+
+// The stream with a number; an empty place where no stream has it.
+#[tactic(auto, unfolding(junction_places::specs::Places::stream_numbered, junction_places::specs::Places::stream_at))]
+fn stream_named(j: &Junction, n: u8) -> Stream
+    ensures { result ≡ stream_numbered j.now n }
+{
+    let n = n as usize;
+    if (1..=MOST_STREAMS).contains(&n) {
+        j.streams[n - 1]
+    } else {
+        no_stream()
+    }
+}
+
+// Adds what a field says, by its tag.
+#[tactic(auto, unfolding(junction_questions::specs::Questions::within_limit, crate::specs::Reading::with_field, crate::specs::Reading::with_heading, crate::specs::Reading::with_stream, crate::specs::Reading::with_zone, crate::specs::Reading::with_count))]
+fn add_field(j: &mut Junction, tag: u8, body: &[u8])
+    requires { within_limit tag j.old.held ≡ true }
+    ensures { j.new ≡ with_field tag body.now j.old }
+{
+    match tag {
+        1 => {
+            j.held.last = 1;
             j.day = junction::design_day(body);
             j.period = junction::planned_period(body);
-            j.held.last = 1;
-            continue;
         }
-        if tag == 2 {
-            let n = held.streams;
-            j.streams[n] = junction::stream_of(body);
+        2 => {
             j.held.last = 2;
-            j.held.streams = n + 1;
-            continue;
+            j.streams[j.held.streams] = junction::stream_of(body);
+            j.held.streams += 1;
         }
-        if tag == 3 {
-            let n = held.zones;
-            j.zones[n] = junction::zone_of(body);
+        3 => {
             j.held.last = 3;
-            j.held.zones = n + 1;
-            continue;
+            j.zones[j.held.zones] = junction::zone_of(body);
+            j.held.zones += 1;
         }
-        let n = held.counts;
-        j.counts[n] = junction::count_of(body);
-        j.held.last = 4;
-        j.held.counts = n + 1;
-    }
-    at_end(file.len(), j)
-}
-
-// The place of the stream with a number; the number 0 has the place past the last.
-#[tactic(auto, unfolding(crate::specs::lemmas::Named::stream_place))]
-fn stream_place(n: u8) -> usize
-    ensures { result ≡ stream_place n }
-{
-    if n == 0 {
-        return MOST_STREAMS;
-    }
-    n as usize - 1
-}
-
-#[tactic(auto, unfolding(crate::specs::Reading::at_end))]
-fn at_end(size: usize, j: Junction) -> Reading
-    ensures { result ≡ at_end size j }
-{
-    Reading {
-        verdict: junction_questions::whole_verdict(size, j),
-        junction: j,
+        _ => {
+            j.held.last = 4;
+            j.counts[j.held.counts] = junction::count_of(body);
+            j.held.counts += 1;
+        }
     }
 }
 

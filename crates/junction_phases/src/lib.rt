@@ -2,22 +2,21 @@
 // a plan"). Phases and streams are named by their numbers, from 1.
 #![tactic(auto)]
 
-ghost use Rattle.std.specs.Prelude.{cond, ◌≡◌, ◌≤◌, min, get_or};
+ghost use Rattle.std.specs.Prelude.{cond, ◌≡◌, ◌≤◌, ◌<◌, ℕ, min, get_or};
+ghost use Rattle.std.specs.List.{list_any};
 ghost use Rattle.limits.specs.Limits.{most_phases, most_streams};
 ghost use Rattle.laws.specs.ByNumber.{ByNumber};
 ghost use Rattle.laws.specs.Largest.{largest_of};
-ghost use Rattle.streams.specs.Kinds.{is_car};
+ghost use Rattle.streams.specs.Kinds.{is_car, is_pedestrian_or_tram};
 ghost use Rattle.flows.specs.Saturation.{flow_ratio};
 ghost use Rattle.junction_places.specs.Blank.{no_stream};
 ghost use Rattle.junction_file.specs.Taken.{Taken};
-ghost use Rattle.junction_tables.specs.Tables.{conflicts_of, loads_of};
 ghost use Rattle.junction_phases.specs.JunctionPhases.{has_pedestrian_or_tram, phase_after, phases_at, with_need};
 ghost use Rattle.junction_phases.specs.lemmas.Made.{phase_with};
-ghost use Rattle.junction_phases.specs.lemmas.Tabled.{needs_by, ratios_by, entries_by, onward as onward_by, StreamPhases, ZonesPhases};
+ghost use Rattle.junction_phases.specs.lemmas.Tabled.{largest_in, needs_by, ratios_by, entries_by, onward as onward_by, StreamPhases, ZonesPhases};
 
 use junction::Junction;
-use junction_tables::{Conflicts, Load, Loads};
-use laws::u32_larger;
+use junction_tables::{Conflicts, Load, Loads, Tables};
 use limits::{MOST_PHASES, MOST_STREAMS};
 use phase_lengths::{Phase, Phases};
 use streams::Stream;
@@ -29,43 +28,33 @@ fn only(test: bool, n: u32) -> u32
     if test { n } else { 0 }
 }
 
-// Whether the junction has a pedestrian or a tram, so that (33) gives its first length.
-pub fn has_pedestrian_or_tram(j: Junction) -> bool
-    requires { Taken j }
-    ensures { result ≡ has_pedestrian_or_tram j }
+// Whether one of some streams is a pedestrian's or a tram's.
+fn some_pedestrian_or_tram(streams: &[Stream]) -> bool
+    ensures { result ≡ list_any (λ s. is_pedestrian_or_tram s.kind) streams.now }
 {
-    let n = j.held.streams;
-    let mut most: u32 = 0;
-    let mut i: usize = 0;
-    while i < n {
-        let s = j.streams[i];
-        most = u32_larger(most, only(streams::is_pedestrian_or_tram(s), 1));
-        i += 1;
-    }
-    1 <= most
+    streams.iter().any(|s| streams::is_pedestrian_or_tram(*s))
+}
+
+// Whether the junction has a pedestrian or a tram, so that (33) gives its first length.
+pub fn has_pedestrian_or_tram(j: &Junction) -> bool
+    requires { Taken j.now }
+    ensures { result ≡ has_pedestrian_or_tram j.now }
+{
+    some_pedestrian_or_tram(&j.streams[..j.held.streams])
 }
 
 // The number of phases: that of the last one, at most six.
-fn phase_count(streams: [Stream; MOST_STREAMS], n: usize) -> usize
+#[tactic(auto, using(laws::proofs::Largest::largest_none, laws::proofs::Largest::largest_next))]
+fn phase_count(streams: &[Stream; MOST_STREAMS], n: usize) -> usize
     requires { n ≤ most_streams }
-    ensures value { result ≡ min (largest_of (λ i. (get_or streams i no_stream).phase) n) most_phases }
+    ensures value { result ≡ min (largest_of (λ i. (get_or streams.now i no_stream).phase) n) most_phases }
     ensures few { result ≤ most_phases }
 {
-    let mut last: u32 = 0;
-    let mut i: usize = 0;
-    while i < n {
-        let s = streams[i];
-        last = u32_larger(last, s.phase as u32);
-        i += 1;
+    let mut last: u8 = 0;
+    for s in &streams[..n] {
+        last = last.max(s.phase);
     }
-    at_most_six(last)
-}
-
-fn at_most_six(n: u32) -> usize
-    ensures value { result ≡ min n most_phases }
-    ensures few { result ≤ most_phases }
-{
-    if n <= 6 { n as usize } else { 6 }
+    (last as usize).min(MOST_PHASES)
 }
 
 // The phase after a phase; the first follows the last.
@@ -89,36 +78,40 @@ fn car_ratio(s: Stream, load: Load) -> u32
     )
 }
 
-// The largest flow ratio of each phase's cars, by one pass over the streams.
-fn ratios_of(streams: [Stream; MOST_STREAMS], loads: Loads, n: usize) -> [u32; MOST_PHASES]
-    requires { StreamPhases streams n }
-    ensures { ByNumber most_phases (ratios_by streams loads n) result }
+// The largest figure of each phase's streams, by one pass over the streams. A figure is that of the stream at a place, from 0.
+fn largest_by_phase<F: Fn(usize) -> u32>(
+    streams: &[Stream; MOST_STREAMS],
+    n: usize,
+    figure: F,
+) -> [u32; MOST_PHASES]
+    requires phases { StreamPhases streams.now n }
+    requires callable { (i : ℕ) → i < n → F.pre figure i }
+    ensures { (of : ℕ → ℕ)
+        → ((i x : ℕ) → i < n → F.post figure i x → x ≡ of i)
+        → ByNumber most_phases (largest_in streams.now of n) result }
 {
-    let mut ratios: [u32; MOST_PHASES] = [0; MOST_PHASES];
-    let mut i: usize = 0;
-    while i < n {
-        let s = streams[i];
-        let f = s.phase as usize - 1;
-        ratios[f] = u32_larger(ratios[f], car_ratio(s, loads.of[i]));
-        i += 1;
+    let mut largest: [u32; MOST_PHASES] = [0; MOST_PHASES];
+    for i in 0..n {
+        let f = streams[i].phase as usize - 1;
+        largest[f] = largest[f].max(figure(i));
     }
-    ratios
+    largest
 }
 
-// The largest needed green of each phase's streams at a cycle, by one pass over the streams.
-fn needs_at(streams: [Stream; MOST_STREAMS], n: usize, t: u16) -> [u32; MOST_PHASES]
-    requires { StreamPhases streams n }
-    ensures { ByNumber most_phases (needs_by streams t n) result }
+// The largest flow ratio of each phase's cars.
+fn ratios_of(streams: &[Stream; MOST_STREAMS], loads: &Loads, n: usize) -> [u32; MOST_PHASES]
+    requires { StreamPhases streams.now n }
+    ensures { ByNumber most_phases (ratios_by streams.now loads.now n) result }
 {
-    let mut needs: [u32; MOST_PHASES] = [0; MOST_PHASES];
-    let mut i: usize = 0;
-    while i < n {
-        let s = streams[i];
-        let f = s.phase as usize - 1;
-        needs[f] = u32_larger(needs[f], flows::need(s, t));
-        i += 1;
-    }
-    needs
+    largest_by_phase(streams, n, |i| car_ratio(streams[i], loads.of[i]))
+}
+
+// The largest needed green of each phase's streams at a cycle.
+fn needs_at(streams: &[Stream; MOST_STREAMS], n: usize, t: u16) -> [u32; MOST_PHASES]
+    requires { StreamPhases streams.now n }
+    ensures { ByNumber most_phases (needs_by streams.now t n) result }
+{
+    largest_by_phase(streams, n, |i| flows::need(streams[i], t))
 }
 
 // The entry from a stream of phase f to one of phase g, 0 where g is not the next phase.
@@ -131,85 +124,82 @@ fn onward(f: u8, g: u8, count: usize, entry: u16) -> u32
 
 // The largest entry from each phase's streams to those of the next phase, by one pass over the zones.
 fn entries_of(
-    streams: [Stream; MOST_STREAMS],
-    conflicts: Conflicts,
+    streams: &[Stream; MOST_STREAMS],
+    conflicts: &Conflicts,
     zones: usize,
     count: usize,
 ) -> [u32; MOST_PHASES]
-    requires zones { ZonesPhases streams conflicts zones }
+    requires zones { ZonesPhases streams.now conflicts.now zones }
     requires count { count ≤ most_phases }
-    ensures { ByNumber most_phases (entries_by streams conflicts count zones) result }
+    ensures { ByNumber most_phases (entries_by streams.now conflicts.now count zones) result }
 {
     let mut entries: [u32; MOST_PHASES] = [0; MOST_PHASES];
-    let mut i: usize = 0;
-    while i < zones {
+    for i in 0..zones {
         let c = conflicts.of[i];
         let a = streams[c.a as usize - 1];
         let b = streams[c.b as usize - 1];
         let f = a.phase as usize - 1;
-        entries[f] = u32_larger(entries[f], onward(a.phase, b.phase, count, c.atob));
+        entries[f] = entries[f].max(onward(a.phase, b.phase, count, c.atob));
         let g = b.phase as usize - 1;
-        entries[g] = u32_larger(entries[g], onward(b.phase, a.phase, count, c.btoa));
-        i += 1;
+        entries[g] = entries[g].max(onward(b.phase, a.phase, count, c.btoa));
     }
     entries
 }
 
-// A phase by its largest figures. It has cars where its ratio is not 0, since no car's is.
+// A phase by its largest figures. It has cars where its ratio is not 0, since a car's ratio is never 0.
 fn phase_with(ratio: u32, entry: u32, need: u32) -> Phase
     ensures { result ≡ phase_with ratio entry need }
 {
     Phase {
         cars: 1 <= ratio,
         ratio,
-        intergreen: u32_larger(1, entry),
+        intergreen: entry.max(1),
         need,
     }
 }
 
 // The phases of a junction, with their needs at a cycle.
-pub fn phases_at(j: Junction, loads: Loads, conflicts: Conflicts, t: u16) -> Phases
-    requires taken { Taken j }
-    requires loads { loads ≡ loads_of j }
-    requires conflicts { conflicts ≡ conflicts_of j }
-    ensures { result ≡ phases_at j t }
+#[tactic(auto, using(crate::specs::lemmas::Tabled::stream_phases, crate::specs::lemmas::Tabled::zones_phases, laws::specs::Filled::filled_none, laws::specs::Filled::filled_next))]
+pub fn phases_at(tables: &Tables, t: u16) -> Phases
+    requires { Taken tables.now.junction }
+    ensures { result ≡ phases_at tables.now.junction t }
 {
-    let streams = j.streams;
-    let n = j.held.streams;
+    let streams = &tables.junction.streams;
+    let n = tables.junction.held.streams;
     let count = phase_count(streams, n);
-    let ratios = ratios_of(streams, loads, n);
-    let entries = entries_of(streams, conflicts, j.held.zones, count);
+    let ratios = ratios_of(streams, &tables.loads, n);
+    let entries = entries_of(
+        streams,
+        &tables.conflicts,
+        tables.junction.held.zones,
+        count,
+    );
     let needs = needs_at(streams, n, t);
     let mut q = Phases {
         count,
         of: [phase_lengths::no_phase(); MOST_PHASES],
     };
-    let mut i: usize = 0;
-    while i < count {
+    for i in 0..count {
         q.of[i] = phase_with(ratios[i], entries[i], needs[i]);
-        i += 1;
     }
     q
 }
 
 // The same phases with their needs at another cycle.
-#[tactic(auto, unfolding(crate::specs::JunctionPhases::phases_at))]
-pub fn at_cycle(j: Junction, q: Phases, t: u16) -> Phases
-    requires taken { Taken j }
-    requires phases { q ≡ phases_at j 0 }
-    ensures { result ≡ phases_at j t }
+#[tactic(auto, using(crate::specs::lemmas::Tabled::stream_phases, crate::specs::lemmas::Placed::few_phases, laws::specs::Filled::filled_none, laws::specs::Filled::filled_next), unfolding(crate::specs::JunctionPhases::phases_at))]
+pub fn at_cycle(j: &Junction, q: Phases, t: u16) -> Phases
+    requires taken { Taken j.now }
+    requires phases { q ≡ phases_at j.now 0 }
+    ensures { result ≡ phases_at j.now t }
 {
-    let streams = j.streams;
-    let needs = needs_at(streams, j.held.streams, t);
+    let needs = needs_at(&j.streams, j.held.streams, t);
     let count = q.count;
     let mut now = Phases {
         count,
         of: [phase_lengths::no_phase(); MOST_PHASES],
     };
-    let mut i: usize = 0;
-    while i < count {
+    for i in 0..count {
         now.of[i] = with_need(phase_lengths::phase_at(q, i), needs[i]);
-        i += 1;
     }
     now
 }
@@ -217,10 +207,5 @@ pub fn at_cycle(j: Junction, q: Phases, t: u16) -> Phases
 fn with_need(p: Phase, need: u32) -> Phase
     ensures { result ≡ with_need p need }
 {
-    Phase {
-        cars: p.cars,
-        ratio: p.ratio,
-        intergreen: p.intergreen,
-        need,
-    }
+    Phase { need, ..p }
 }

@@ -1,7 +1,8 @@
 // What stands at a place of a junction, from 0, or has a number, from 1, and the count that gives a stream its flow.
 #![tactic(auto)]
 
-ghost use Rattle.std.specs.Prelude.{◌≡◌, ℕ, ◌<◌, get_or};
+ghost use Rattle.std.specs.Prelude.{◌≡◌, ℕ, ◌<◌, get_or, cond, ltb};
+ghost use Rattle.limits.specs.Limits.{most_counts};
 ghost use Rattle.junction_places.specs.Blank.{no_stream, no_count, no_zone};
 ghost use Rattle.junction_places.specs.Places.{stream_at, zone_at, stream_numbered, numbered as numbered_in, exists as exists_in};
 ghost use Rattle.junction_places.specs.Ranks.{newest_rank};
@@ -16,7 +17,7 @@ use streams::{CarFigures, Kind, Stream};
 pub fn numbered(streams: usize, n: usize) -> bool
     ensures { result ≡ numbered_in streams n }
 {
-    (1 <= n) & (n <= streams)
+    (1..=streams).contains(&n)
 }
 
 // Whether a stream has a number.
@@ -39,6 +40,8 @@ pub fn stream_numbered(j: Junction, n: usize) -> Stream
 }
 
 // The stream at a place, from 0; an empty place past the sixteenth.
+// Stays a test and an index, as do zones and counts: by `.get(i).copied().unwrap_or(..)` the reading of a junction took 1.1 % more instructions,
+// and no change may make it slower.
 #[tactic(auto, unfolding(crate::specs::Places::stream_at))]
 fn stream_at(j: Junction, i: usize) -> Stream
     ensures { result ≡ stream_at j i }
@@ -105,54 +108,48 @@ pub fn no_zone() -> Zone
     Zone { a: side, b: side }
 }
 
+// The count at a place, from 0; an empty place past the last. The counts are lent, since passing the junction on for each would copy all of it.
+fn count_at(counts: &[Count; MOST_COUNTS], i: usize) -> Count
+    ensures { result ≡ cond (ltb i most_counts) (get_or counts.now i no_count) no_count }
+{
+    if i < MOST_COUNTS {
+        return counts[i];
+    }
+    no_count()
+}
+
 // For each number of one byte the rank of the count that gives its stream the flow, by one pass over the counts.
 #[tactic(auto, unfolding(crate::specs::Places::count_at, crate::specs::Ranks::rank_at, crate::specs::Ranks::newest_rank))]
 pub fn newest_ranks(j: Junction) -> [u32; 256]
     ensures { (n : ℕ) → n < 256 → get_or result n 0 ≡ newest_rank j n }
 {
-    let held = j.held.counts;
     let mut ranks: [u32; 256] = [0; 256];
-    let mut i: usize = 0;
-    while i < held {
-        let c = if i < MOST_COUNTS {
-            j.counts[i]
-        } else {
-            no_count()
-        };
+    for i in 0..j.held.counts {
+        let c = count_at(&j.counts, i);
         let n = c.stream as usize;
-        let best = ranks[n];
         let wanted = Wanted {
             stream: n,
             day: j.day,
             period: j.period as usize,
         };
-        ranks[n] = counts::newer(best, wanted, c);
-        i += 1;
+        ranks[n] = counts::newer(ranks[n], wanted, c);
     }
     ranks
 }
 
 // The rank of the count that gives the stream with a number its flow, 0 where none is usable.
-#[tactic(auto, unfolding(crate::specs::Places::count_at, crate::specs::Ranks::rank_at, crate::specs::Ranks::newest_rank))]
+#[tactic(auto, using(laws::proofs::Largest::largest_none, laws::proofs::Largest::largest_next), unfolding(crate::specs::Places::count_at, crate::specs::Ranks::rank_at, crate::specs::Ranks::newest_rank))]
 pub fn newest_rank(j: Junction, n: usize) -> u32
     ensures { result ≡ newest_rank j n }
 {
-    let held = j.held.counts;
+    let wanted = Wanted {
+        stream: n,
+        day: j.day,
+        period: j.period as usize,
+    };
     let mut best: u32 = 0;
-    let mut i: usize = 0;
-    while i < held {
-        let c = if i < MOST_COUNTS {
-            j.counts[i]
-        } else {
-            no_count()
-        };
-        let wanted = Wanted {
-            stream: n,
-            day: j.day,
-            period: j.period as usize,
-        };
-        best = counts::newer(best, wanted, c);
-        i += 1;
+    for i in 0..j.held.counts {
+        best = counts::newer(best, wanted, count_at(&j.counts, i));
     }
     best
 }

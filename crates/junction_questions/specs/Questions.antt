@@ -2,9 +2,7 @@
 use Rattle.std.specs.Prelude.{ℕ, ◌+◌, ◌-◌, Bool, true, ◌&&◌, ◌||◌, not, cond, List, leb, ltb, eqb, length}
 use Rattle.laws.specs.Search.{first_below}
 use Rattle.fields.specs.Bytes.{byte_at, fits, body_of}
-use Rattle.fields.specs.Verdict.{ask}
-use Rattle.fields.specs.declared.Verdict.{Verdict}
-use Rattle.fields.specs.declared.Verdict.TheVariants.{Passed}
+use Rattle.fields.specs.Verdict.{ask, Verdict, Passed}
 use Rattle.streams.specs.declared.Stream.{Stream}
 use Rattle.junction.specs.declared.Held.{Held}
 use Rattle.junction.specs.declared.Junction.{Junction}

@@ -11,7 +11,6 @@ ghost use Rattle.junction_tables.specs.Pairs.{pairs, pair_place, ByPair, raised_
 ghost use Rattle.junction_tables.specs.Tables.{no_conflict, conflicts_of, no_load, load_by, loads_of};
 
 use junction::Junction;
-use laws::u16_larger;
 use limits::{MOST_STREAMS, MOST_ZONES};
 use streams::Stream;
 
@@ -19,7 +18,7 @@ use streams::Stream;
 const PAIRS: usize = MOST_STREAMS * MOST_STREAMS;
 
 // A conflict zone: the numbers of its streams, and the entries of the pair in seconds, atob from a to b and btoa from b to a.
-#[derive(Clone, Copy)]
+#[derive(Clone, Copy, Debug, PartialEq, Eq)]
 pub struct Conflict {
     pub a: u8,
     pub b: u8,
@@ -28,20 +27,21 @@ pub struct Conflict {
 }
 
 // The conflict zones in their order; the places after the last are empty.
-#[derive(Clone, Copy)]
+// Stays an array of fixed room, as do the loads: the project has no heap.
+#[derive(Clone, Copy, Debug, PartialEq, Eq)]
 pub struct Conflicts {
     pub of: [Conflict; MOST_ZONES],
 }
 
 // The flow of a stream and its saturation flow in E/h, 0 and 0 for a stream that is no car.
-#[derive(Clone, Copy)]
+#[derive(Clone, Copy, Debug, PartialEq, Eq)]
 pub struct Load {
     pub flow: u16,
     pub saturation: u32,
 }
 
 // Those of the streams in their order; the places after the last are empty.
-#[derive(Clone, Copy)]
+#[derive(Clone, Copy, Debug, PartialEq, Eq)]
 pub struct Loads {
     pub of: [Load; MOST_STREAMS],
 }
@@ -74,19 +74,18 @@ fn raise(entries: &mut [u16], n: u8, m: u8, entry: u16)
     ensures { entries.new ≡ raised_to entries.old n m entry }
 {
     let here = pair_place(n, m);
-    entries[here] = u16_larger(entries[here], entry);
+    entries[here] = entries[here].max(entry);
 }
 
-// The entries of every pair of streams, by one pass over the zones; the two directions at a zone differ in its sides exchanged alone. The loop
-// stays in this function, since passing the junction on for each zone would copy all of it.
+// The entries of every pair of streams, by one pass over the zones; the two directions at a zone differ in its sides exchanged alone. Each
+// number is read where it stands: copying the zone first took 5 % more instructions, and no change may make it slower.
+#[tactic(auto, using(crate::specs::lemmas::Pairs::zone_first, crate::specs::lemmas::Pairs::zone_second))]
 fn pair_entries(j: Junction) -> [u16; PAIRS]
     requires { Taken j }
     ensures { ByPair (pair_entry j) result }
 {
-    let zones = j.held.zones;
     let mut entries: [u16; PAIRS] = [0; PAIRS];
-    let mut i: usize = 0;
-    while i < zones {
+    for i in 0..j.held.zones {
         let a = j.zones[i].a.stream;
         let b = j.zones[i].b.stream;
         let first = j.streams[a as usize - 1];
@@ -95,7 +94,6 @@ fn pair_entries(j: Junction) -> [u16; PAIRS]
         raise(&mut entries, a, b, atob);
         let btoa = times::entry(second, first, j.zones[i].b.clearing, j.zones[i].a.reaching);
         raise(&mut entries, b, a, btoa);
-        i += 1;
     }
     entries
 }
@@ -116,20 +114,17 @@ fn conflict_by(entries: &[u16], a: u8, b: u8) -> Conflict
 }
 
 // The conflicts of a junction: at each zone the entries of its pair.
-#[tactic(auto, unfolding(crate::specs::Tables::conflicts_of))]
+#[tactic(auto, using(crate::specs::lemmas::Pairs::zone_first, crate::specs::lemmas::Pairs::zone_second, laws::specs::Filled::filled_none, laws::specs::Filled::filled_next, crate::proofs::lemmas::Pairs::zone_conflict), unfolding(crate::specs::Tables::conflicts_of))]
 pub fn conflicts_of(j: Junction) -> Conflicts
     requires { Taken j }
     ensures { result ≡ conflicts_of j }
 {
-    let zones = j.held.zones;
     let entries = pair_entries(j);
     let mut all = Conflicts {
         of: [no_conflict(); MOST_ZONES],
     };
-    let mut i: usize = 0;
-    while i < zones {
+    for i in 0..j.held.zones {
         all.of[i] = conflict_by(&entries, j.zones[i].a.stream, j.zones[i].b.stream);
-        i += 1;
     }
     all
 }
@@ -153,20 +148,40 @@ fn load_by(rank: u32, s: Stream) -> Load
 }
 
 // The loads of a junction.
-#[tactic(auto, unfolding(junction_figures::specs::Figures::stream_flow, junction_figures::specs::Figures::stream_saturation, junction_figures::specs::Figures::stream_ratio, crate::specs::Tables::loads_of))]
+#[tactic(auto, using(laws::specs::Filled::filled_none, laws::specs::Filled::filled_next, junction_file::specs::lemmas::Places::stream_place_lem), unfolding(junction_figures::specs::Figures::stream_flow, junction_figures::specs::Figures::stream_saturation, junction_figures::specs::Figures::stream_ratio, crate::specs::Tables::loads_of))]
 pub fn loads_of(j: Junction) -> Loads
     requires { Taken j }
     ensures { result ≡ loads_of j }
 {
-    let streams = j.held.streams;
     let ranks = junction_places::newest_ranks(j);
     let mut all = Loads {
         of: [no_load(); MOST_STREAMS],
     };
-    let mut i: usize = 0;
-    while i < streams {
+    for i in 0..j.held.streams {
         all.of[i] = load_by(ranks[i + 1], j.streams[i]);
-        i += 1;
     }
     all
+}
+
+// A junction with its tables, which travel together.
+// `Taken` is still a clause of each function: it names the place of a car, so that a ghost field would take it only as `∥ Taken junction ∥₁`.
+#[derive(Clone, Copy)]
+pub struct Tables {
+    pub junction: Junction,
+    pub loads: Loads,
+    pub conflicts: Conflicts,
+    pub ghost loaded: { loads ≡ loads_of junction },
+    pub ghost joined: { conflicts ≡ conflicts_of junction },
+}
+
+// The tables of a junction that is taken.
+pub fn tables_of(junction: Junction) -> Tables
+    requires { Taken junction }
+    ensures { result.junction ≡ junction }
+{
+    Tables {
+        junction,
+        loads: loads_of(junction),
+        conflicts: conflicts_of(junction),
+    }
 }

@@ -3,10 +3,12 @@ use Prim.Native.Nat.{ℕ, zero, suc, ◌+◌, ◌≤◌, ◌<◌, max}
 use Rattle.std.proofs.Common.{le_of_eq, eq-zero-or-pos, eq-or-lt_of_le, add-one, ◌∙◌, ap₂}
 use Rattle.std.proofs.Math.Nat.{le-max_left, le-max_right, le_trans, max-eq_left, max-eq_right}
 use native.Mathlib.Omega.{arith}
-use Rattle.std.specs.Prelude.{◌↔◌, ◌≡◌, leb}
+use Rattle.std.specs.Prelude.{◌↔◌, ◌≡◌, leb, Bool, cond, List, length, take, get_or}
+use Rattle.std.specs.List.{list_any}
+use Rattle.std.proofs.lemmas.List.Folds.{list_any_more}
 use Rattle.std.proofs.Math.Logic.{⊎_elim}
 use Rattle.std.proofs.Math.Path.{refl, sym}
-use borrow.Author.Tests.{leb-true, leb-false}
+use borrow.Author.Tests.{leb-true, leb-false, le-leb, lt-leb}
 use Rattle.laws.specs.Tests.{by_test}
 use Rattle.laws.specs.Largest.{largest_of}
 
@@ -64,3 +66,17 @@ largest_among f g n m among =
     (λ i low. ⊎_elim (λ (none : f i ≡ 0). omega arith)
     (λ (some : 0 < f i). let found = among i low some in le_trans (le_of_eq (sym found.2)) (largest_bounds g m found.0 found.1))
     (eq-zero-or-pos (f i)))
+
+-- whether an element of a list passes a test, by numbers
+pub any_largest : {X : Type 0} (test : X → Bool) (xs : List X) (d : X) (n : ℕ) → n ≤ length xs
+    → list_any test (take n xs) ≡ leb 1 (largest_of (λ i. cond (test (get_or xs i d)) 1 0) n)
+unfolding largest_of
+any_largest test xs d zero few = refl
+any_largest test xs d (suc n) few =
+    let earlier = any_largest test xs d n (omega arith) in
+    let most = largest_of (λ i. cond (test (get_or xs i d)) 1 0) n in
+    rw (← add-one n, list_any_more test xs n d (omega arith), earlier)
+    (by_test (test (get_or xs n d))
+    (λ e. rw e (by_test (leb 1 most) (λ f. rw f (sym (le-leb 1 (max most 1) (omega arith)))) (λ f. rw f (sym (le-leb 1 (max most 1) (omega arith))))))
+    (λ e. rw e (by_test (leb 1 most) (λ f. rw f (sym (le-leb 1 (max most 0) (omega (arith, leb-true 1 most f)))))
+    (λ f. rw f (sym (lt-leb 1 (max most 0) (omega (arith, leb-false 1 most f))))))))

@@ -1,34 +1,11 @@
 // Arithmetic on whole numbers that Rattle has no operator for.
 #![tactic(auto)]
 
-ghost use Rattle.std.specs.Prelude.{◌≡◌, ◌-◌, max};
+ghost use Rattle.std.specs.Prelude.{◌≡◌, ◌≤◌, ◌<◌, ℕ, Bool};
 ghost use Rattle.laws.specs.Rounding.{up};
+ghost use Rattle.laws.specs.Search.{first_below};
 
-// The larger of two numbers, at each width in use.
-pub fn u16_larger(a: u16, b: u16) -> u16
-    ensures { result ≡ max a b }
-{
-    if a <= b { b } else { a }
-}
-
-pub fn u32_larger(a: u32, b: u32) -> u32
-    ensures { result ≡ max a b }
-{
-    if a <= b { b } else { a }
-}
-
-pub fn u64_larger(a: u64, b: u64) -> u64
-    ensures { result ≡ max a b }
-{
-    if a <= b { b } else { a }
-}
-
-// The difference, or 0 where it would be below 0.
-pub fn above(a: u64, b: u64) -> u64
-    ensures { result ≡ a - b }
-{
-    if b <= a { a - b } else { 0 }
-}
+use std::ops::Range;
 
 // The quotient rounded up, or 0 where the divisor is 0.
 pub fn div_up(n: u32, d: u32) -> u32
@@ -37,6 +14,23 @@ pub fn div_up(n: u32, d: u32) -> u32
     if d == 0 {
         return 0;
     }
-    let whole = (n as u64 + (d as u64 - 1)) / d as u64;
-    whole as u32
+    n.div_ceil(d)
+}
+
+// The first number of a range that passes a test; the range's end where none does.
+// A number, and no Option: it is `first_below`, of which the definitions of places and lengths are made.
+pub fn first_in<F: Fn(usize) -> bool>(range: Range<usize>, test: F) -> usize
+    requires forward { range.start ≤ range.end }
+    requires callable { (i : ℕ) → range.start ≤ i → i < range.end → F.pre test i }
+    ensures within { result ≤ range.end }
+    ensures first { (passes : ℕ → Bool)
+        → ((i : ℕ) (b : Bool) → range.start ≤ i → i < range.end → F.post test i b → b ≡ passes i)
+        → result ≡ first_below passes range.end range.start }
+{
+    for i in range.start..range.end {
+        if test(i) {
+            return i;
+        }
+    }
+    range.end
 }

@@ -8,8 +8,7 @@ use borrow.Author.Tests.{leb-true, leb-false, le-ltb}
 use Rattle.laws.specs.Tests.{by_test}
 use Rattle.limits.specs.Limits.{most_seconds, most_streams}
 use Rattle.fields.specs.Bytes.{byte_at, number_at}
-use Rattle.fields.specs.Verdict.{is_refused, not_refused, later_same}
-use Rattle.fields.specs.declared.Verdict.TheVariants.{Passed}
+use Rattle.fields.specs.Verdict.{is_refused, not_refused, later_same, Passed}
 use Rattle.junction_file.specs.Reading.{reading}
 use Rattle.junction_file.proofs.TakenFile.{taken}
 use Rattle.plan_file.specs.lemmas.Long.{enough}

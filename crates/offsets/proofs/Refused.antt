@@ -7,8 +7,7 @@ use Rattle.std.proofs.Math.Path.{ap}
 use borrow.Author.Tests.{ltb-true, lt-ltb, le-ltb}
 use Rattle.fields.specs.Bytes.{number_at}
 use Rattle.fields.specs.lemmas.Numbers.{Numbered, ask_numbered, first_numbered, passed_number}
-use Rattle.fields.specs.Verdict.{number_of, is_refused, ask, ask_passed, both_passed}
-use Rattle.fields.specs.declared.Verdict.TheVariants.{Passed, Refused}
+use Rattle.fields.specs.Verdict.{number_of, is_refused, ask, ask_passed, both_passed, Passed, Refused}
 use Rattle.junction_file.proofs.Numbers.{reading_numbered}
 use Rattle.junction_file.specs.Reading.{reading}
 use Rattle.plan_file.proofs.Numbers.{plan_numbered}

@@ -7,8 +7,7 @@ use Rattle.std.proofs.Common.{arith, ◌∙◌, ap, leb-true, leb-false, ltb-tru
 use Rattle.std.proofs.Math.Path.{sym}
 use Rattle.laws.specs.Ranges.{Between}
 use Rattle.laws.specs.Tests.{by_test}
-use Rattle.fields.specs.Verdict.{is_refused, each_same, not_refused}
-use Rattle.fields.specs.declared.Verdict.TheVariants.{Passed}
+use Rattle.fields.specs.Verdict.{is_refused, each_same, not_refused, Passed}
 use Rattle.junction.specs.declared.Junction.{Junction}
 use Rattle.junction_places.specs.Places.{zone_numbered_at}
 use Rattle.junction_file.specs.Reading.{reading}

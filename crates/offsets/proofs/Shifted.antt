@@ -13,7 +13,7 @@ use Rattle.laws.specs.Ranges.{Between}
 use Rattle.laws.specs.Tests.{by_test}
 use Rattle.limits.specs.Limits.{most_streams}
 use Rattle.fields.specs.Bytes.{byte_at, number_at}
-use Rattle.fields.specs.declared.Verdict.TheVariants.{Passed}
+use Rattle.fields.specs.Verdict.{Passed}
 use Rattle.plan_file.proofs.Inverse.{two_bytes}
 use Rattle.plan_file.specs.Plans.{plan_verdict, plan_of, green_of, green_at}
 use Rattle.plan_file.specs.WellFormed.{GreenRight, WellFormed, green_read}

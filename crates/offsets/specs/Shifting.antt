@@ -1,9 +1,7 @@
 -- One offset for every start of a plan file (document 02, 2026-06): the verdict, and every byte of the lent file afterwards.
 use Rattle.std.specs.Prelude.{ℕ, zero, suc, ◌+◌, ◌*◌, ◌/◌, ◌%◌, cond, List, ltb, set}
 use Rattle.fields.specs.Bytes.{number_at}
-use Rattle.fields.specs.Verdict.{is_refused, ask, first_refusal}
-use Rattle.fields.specs.declared.Verdict.{Verdict}
-use Rattle.fields.specs.declared.Verdict.TheVariants.{Passed}
+use Rattle.fields.specs.Verdict.{is_refused, ask, first_refusal, Verdict, Passed}
 use Rattle.junction_file.specs.Reading.{reading}
 use Rattle.plan_file.specs.Plans.{plan_verdict}
 

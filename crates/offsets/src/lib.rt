@@ -7,48 +7,38 @@ ghost use Rattle.fields.specs.Bytes.{number_at};
 ghost use Rattle.plan_file.specs.WellFormed.{WellFormed};
 ghost use Rattle.offsets.specs.Shifting.{start_place, with_number, moved as moved_of, shifted, file_verdict, file_shifted, shift_verdict, shifted_plan};
 
-use fields::{Verdict, ask};
+use fields::{Refusal, ask};
 
-// The answer to every two sequences of bytes and every offset: `Passed`, and in the lent plan file every start is (start + offset) modulo
+// The answer to every two sequences of bytes and every offset: nothing refused, and in the lent plan file every start is (start + offset) modulo
 // the cycle, and every other byte as it was; or the first refusal with its number and place, and no byte is altered. The junction's
 // questions 1 to 9 come first, then the plan's 11 to 13; then 24, place 0: is the offset below the cycle? The judge's rules are not asked.
 #[tactic(auto, unfolding(crate::specs::Shifting::shift_verdict, crate::specs::Shifting::shifted_plan, crate::specs::Shifting::file_shifted))]
-pub fn shift(junction: &[u8], plan: &mut [u8], offset: usize) -> Verdict
+pub fn shift(junction: &[u8], plan: &mut [u8], offset: usize) -> Result<(), Refusal>
     ensures result { result ≡ shift_verdict junction.now plan.old offset }
     ensures lent { plan.new ≡ shifted_plan junction.now plan.old offset }
 {
-    let reading = junction_file::read(junction);
-    let verdict = reading.verdict;
-    if fields::refused(verdict) {
-        return verdict;
-    }
-    shift_file(plan, reading.junction.held.streams, offset)
+    let j = junction_file::read(junction)?;
+    shift_file(plan, j.held.streams, offset)
 }
 
 // The same with the plan file of a junction that is taken, which has so many streams.
 #[tactic(auto, unfolding(crate::specs::Shifting::file_shifted))]
-fn shift_file(plan: &mut [u8], streams: usize, offset: usize) -> Verdict
+fn shift_file(plan: &mut [u8], streams: usize, offset: usize) -> Result<(), Refusal>
     requires { streams ≤ most_streams }
     ensures result { result ≡ file_verdict plan.old streams offset }
     ensures lent { plan.new ≡ file_shifted plan.old streams offset }
 {
-    let verdict = file_verdict(plan, streams, offset);
-    if fields::refused(verdict) {
-        return verdict;
-    }
+    file_verdict(plan, streams, offset)?;
     shift_starts(plan, streams, offset);
-    verdict
+    Ok(())
 }
 
 #[tactic(auto, unfolding(crate::specs::Shifting::file_verdict))]
-fn file_verdict(plan: &[u8], streams: usize, offset: usize) -> Verdict
+fn file_verdict(plan: &[u8], streams: usize, offset: usize) -> Result<(), Refusal>
     ensures { result ≡ file_verdict plan.now streams offset }
 {
-    let below = offset < fields::number(plan, 3) as usize;
-    fields::first_refusal(
-        plan_file::verdict(plan, streams),
-        ask(below, 24, 0, Verdict::Passed),
-    )
+    plan_file::verdict(plan, streams)?;
+    ask(offset < fields::number(plan, 3) as usize, 24, 0)
 }
 
 #[tactic(auto, unfolding(crate::specs::Shifting::start_place))]
@@ -59,10 +49,8 @@ fn shift_starts(plan: &mut [u8], streams: usize, offset: usize)
     ensures { plan.new ≡ shifted plan.old offset streams }
 {
     let cycle = fields::number(plan, 3);
-    let mut i: usize = 0;
-    while i < streams {
+    for i in 0..streams {
         shift_start(plan, start_place(i), cycle, offset);
-        i += 1;
     }
 }
 

@@ -1,19 +1,18 @@
 // What a length of the cycle gives each phase: effective green, green and start (document 01, "Working out a plan").
 #![tactic(auto)]
 
-ghost use Rattle.std.specs.Prelude.{cond, ◌≡◌, ◌-◌, ◌≤◌};
+ghost use Rattle.std.specs.Prelude.{◌≡◌, ◌-◌, ◌≤◌};
 ghost use Rattle.limits.specs.Limits.{most_phases};
 ghost use Rattle.phase_greens.specs.Greens.{share as share_of, shares as shares_in, sharing as sharing_of, extra as extra_of, green_by};
 ghost use Rattle.phase_greens.specs.Greens.{gives_greens};
 ghost use Rattle.phase_greens.specs.Slots.{no_slot, slots_of, first_below_one_in};
 
-use laws::above;
 use limits::MOST_PHASES;
 use phase_lengths::{Phase, Phases};
 
 // What is shared out at a length of the cycle: the seconds of effective green, over the sum of the flow ratios, and the seconds that are
 // left over after rounding down.
-#[derive(Clone, Copy)]
+#[derive(Clone, Copy, Debug, PartialEq, Eq)]
 pub struct Sharing {
     pub seconds: u16,
     pub ratios: u64,
@@ -21,14 +20,15 @@ pub struct Sharing {
 }
 
 // A phase's start and its green, in seconds.
-#[derive(Clone, Copy)]
+#[derive(Clone, Copy, Debug, PartialEq, Eq)]
 pub struct Slot {
     pub start: u64,
     pub green: u64,
 }
 
 // Those of six places; of an empty place the green is 0.
-#[derive(Clone, Copy)]
+// Stays an array of fixed room, of which fewer places may be in use: the project has no heap.
+#[derive(Clone, Copy, Debug, PartialEq, Eq)]
 pub struct Slots {
     pub of: [Slot; MOST_PHASES],
 }
@@ -46,16 +46,13 @@ fn share(ratio: u32, seconds: u16, ratios: u64) -> u64
 }
 
 // The sum of the phases' parts.
-#[tactic(auto, unfolding(phase_lengths::specs::Phases::phase, crate::specs::Greens::shares))]
+#[tactic(auto, using(laws::specs::Sums::sum_none, laws::specs::Sums::sum_next), unfolding(phase_lengths::specs::Phases::phase, crate::specs::Greens::shares))]
 fn shares(q: Phases, seconds: u16, ratios: u64) -> u64
     ensures { result ≡ shares_in q seconds ratios }
 {
     let mut total: u64 = 0;
-    let mut i: usize = 0;
-    while i < MOST_PHASES {
-        let p = q.of[i];
+    for p in &q.of {
         total += share(p.ratio, seconds, ratios);
-        i += 1;
     }
     total
 }
@@ -64,7 +61,7 @@ fn shares(q: Phases, seconds: u16, ratios: u64) -> u64
 fn spare(t: u16, lost: u64) -> u16
     ensures { result ≡ t - lost }
 {
-    above(t as u64, lost) as u16
+    (t as u64).saturating_sub(lost) as u16
 }
 
 // What is shared out at a length.
@@ -79,16 +76,8 @@ pub fn shared_out(q: Phases, t: u16) -> Sharing
     Sharing {
         seconds,
         ratios,
-        left: above(seconds as u64, given),
+        left: (seconds as u64).saturating_sub(given),
     }
-}
-
-// 1 for a phase with cars, else 0.
-fn one(cars: bool) -> u64
-    ensures value { result ≡ cond cars 1 0 }
-    ensures small { result ≤ 1 }
-{
-    if cars { 1 } else { 0 }
 }
 
 // One second more for a phase with fewer phases with cars before it than there are seconds left over.
@@ -106,10 +95,8 @@ fn green_by(p: Phase, s: Sharing, before: u64) -> u64
     ensures small { result ≤ 281474976710656 }
 {
     if p.cars {
-        return above(
-            share(p.ratio, s.seconds, s.ratios) + extra(before, s.left),
-            1,
-        );
+        let effective = share(p.ratio, s.seconds, s.ratios) + extra(before, s.left);
+        return effective.saturating_sub(1);
     }
     p.need as u64
 }
@@ -121,7 +108,7 @@ fn no_slot() -> Slot
 }
 
 // Start and green of each place: phase 1 starts at 0, each next after the greens and intergreens of those before it.
-#[tactic(auto, unfolding(crate::specs::Slots::slots_of))]
+#[tactic(auto, using(laws::specs::Sums::sum_none, laws::specs::Sums::sum_next, laws::specs::Filled::filled_none, laws::specs::Filled::filled_next), unfolding(phase_lengths::specs::Phases::phase, crate::specs::Greens::cars_before, crate::specs::Greens::green_at, crate::specs::Greens::start_at, crate::specs::Slots::slots_of))]
 pub fn slots_of(q: Phases, s: Sharing) -> Slots
     ensures { result ≡ slots_of q s }
 {
@@ -130,14 +117,12 @@ pub fn slots_of(q: Phases, s: Sharing) -> Slots
     };
     let mut start: u64 = 0;
     let mut before: u64 = 0;
-    let mut i: usize = 0;
-    while i < MOST_PHASES {
+    for i in 0..MOST_PHASES {
         let p = q.of[i];
         let green = green_by(p, s, before);
         all.of[i] = Slot { start, green };
         start += green + p.intergreen as u64;
-        before += one(p.cars);
-        i += 1;
+        before += u64::from(p.cars);
     }
     all
 }
@@ -148,19 +133,11 @@ fn first_below_one(slots: Slots, n: usize) -> usize
     requires { n ≤ most_phases }
     ensures { result ≡ first_below_one_in slots n }
 {
-    let mut i: usize = 0;
-    while i < n {
-        let slot = slots.of[i];
-        if slot.green < 1 {
-            return i;
-        }
-        i += 1;
-    }
-    i
+    laws::first_in(0..n, |i| slots.of[i].green < 1)
 }
 
 // Whether a length is at least its lost time and gives every phase a green of 1 or more.
-#[tactic(auto, unfolding(crate::specs::Greens::gives_greens))]
+#[tactic(auto, using(crate::specs::Slots::short_tabled), unfolding(crate::specs::Greens::gives_greens))]
 pub fn gives_greens(q: Phases, slots: Slots, t: u16) -> bool
     requires count { q.count ≤ most_phases }
     requires slots { slots ≡ slots_of q (sharing_of q t) }

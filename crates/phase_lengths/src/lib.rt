@@ -5,12 +5,11 @@
 ghost use Rattle.std.specs.Prelude.{◌≡◌, ◌+◌, ◌*◌, ◌≤◌, leb};
 ghost use Rattle.phase_lengths.specs.Phases.{no_phase, phase, lost as lost_of, sums_of, long_enough, first_length};
 
-use laws::above;
 use limits::{MOST_PHASES, NO_CYCLE};
 
 // A phase: whether it has cars, the largest flow ratio of these in ten-thousandths, M toward the next phase, and the largest needed green of
 // its streams.
-#[derive(Clone, Copy)]
+#[derive(Clone, Copy, Debug, PartialEq, Eq)]
 pub struct Phase {
     pub cars: bool,
     pub ratio: u32,
@@ -19,14 +18,15 @@ pub struct Phase {
 }
 
 // The phases in their order; the places after the last are empty.
-#[derive(Clone, Copy)]
+// Stays a number beside an array of fixed room: the project has no heap, and the definition `phase` reads the empty places.
+#[derive(Clone, Copy, Debug, PartialEq, Eq)]
 pub struct Phases {
     pub count: usize,
     pub of: [Phase; MOST_PHASES],
 }
 
 // The sums over a junction's phases: Y, of the flow ratios, and L, of the time lost to each (31).
-#[derive(Clone, Copy)]
+#[derive(Clone, Copy, Debug, PartialEq, Eq)]
 pub struct Sums {
     pub ratios: u64,
     pub lost: u64,
@@ -45,6 +45,7 @@ pub fn no_phase() -> Phase
 }
 
 // The phase at a place, from 0; an empty place past the sixth.
+// Stays a test and an index: by `.get(i)` the reader's twin, `stream_at` of junction_places, took more instructions.
 #[tactic(auto, unfolding(crate::specs::Phases::phase))]
 pub fn phase_at(q: Phases, i: usize) -> Phase
     ensures { result ≡ phase q i }
@@ -62,24 +63,21 @@ fn lost(p: Phase) -> u64
     ensures small { result ≤ 8589934592 }
 {
     if p.cars {
-        return above(p.intergreen as u64, 1);
+        return (p.intergreen as u64).saturating_sub(1);
     }
     p.need as u64 + p.intergreen as u64
 }
 
 // Y and L by one pass over the phases.
-#[tactic(auto, unfolding(crate::specs::Phases::phase, crate::specs::Phases::ratio_sum, crate::specs::Phases::lost_time))]
+#[tactic(auto, using(laws::specs::Sums::sum_none, laws::specs::Sums::sum_next), unfolding(crate::specs::Phases::phase, crate::specs::Phases::ratio_sum, crate::specs::Phases::lost_time))]
 pub fn sums_of(q: Phases) -> Sums
     ensures { result ≡ sums_of q }
 {
     let mut ratios: u64 = 0;
     let mut time: u64 = 0;
-    let mut i: usize = 0;
-    while i < MOST_PHASES {
-        let p = q.of[i];
+    for p in &q.of {
         ratios += p.ratio as u64;
-        time += lost(p);
-        i += 1;
+        time += lost(*p);
     }
     Sums { ratios, lost: time }
 }
@@ -95,32 +93,26 @@ fn by_33(lost: u64, product: u64) -> bool
 fn by_32(lost: u64, product: u64) -> bool
     ensures { result ≡ leb (15000 * lost + 50000) product }
 {
-    (50000 <= product) & (lost <= above(product, 50000) / 15000)
+    (50000 <= product) & (lost <= product.saturating_sub(50000) / 15000)
 }
 
 // Whether a length is at least the optimum: by (33) where there are pedestrians or trams, else by (32).
 #[tactic(auto, unfolding(crate::specs::Phases::long_enough))]
-fn long_enough(mixed: bool, ratios: u64, lost: u64, t: u16) -> bool
-    ensures { result ≡ long_enough mixed ratios lost t }
+fn long_enough(mixed: bool, sums: Sums, t: u16) -> bool
+    ensures { result ≡ long_enough mixed sums.ratios sums.lost t }
 {
-    let free = above(10000, ratios);
+    let free = 10000u64.saturating_sub(sums.ratios);
     if mixed {
-        return by_33(lost, t as u64 * t as u64 * free);
+        return by_33(sums.lost, t as u64 * t as u64 * free);
     }
-    by_32(lost, t as u64 * free)
+    by_32(sums.lost, t as u64 * free)
 }
 
 // T0, the least length, from 1 on, that is long enough; 181 where none up to 180 is.
+// Stays a number, and no Option: documents name it as a function that answers every value.
 #[tactic(auto, unfolding(crate::specs::Phases::first_length))]
-pub fn first_length(mixed: bool, ratios: u64, lost: u64) -> u16
-    ensures { result ≡ first_length mixed ratios lost }
+pub fn first_length(mixed: bool, sums: Sums) -> u16
+    ensures { result ≡ first_length mixed sums.ratios sums.lost }
 {
-    let mut t: u16 = 1;
-    while t < NO_CYCLE {
-        if long_enough(mixed, ratios, lost, t) {
-            return t;
-        }
-        t += 1;
-    }
-    t
+    laws::first_in(1..NO_CYCLE as usize, |t| long_enough(mixed, sums, t as u16)) as u16
 }

@@ -12,7 +12,7 @@ use Rattle.laws.specs.Ranges.{Between}
 use Rattle.laws.specs.Tests.{by_test}
 use Rattle.limits.specs.Limits.{most_streams}
 use Rattle.fields.specs.Bytes.{byte_at, number_at}
-use Rattle.fields.specs.declared.Verdict.TheVariants.{Passed}
+use Rattle.fields.specs.Verdict.{Passed}
 use Rattle.plan_file.specs.Plans.{green_at, green_of, plan_of, plan_verdict}
 use Rattle.plan_file.proofs.WellFormed.{well_formed}
 use Rattle.plan_file.specs.WellFormed.{GreenRight, PlanRight, WellFormed, cycle_read, green_read}

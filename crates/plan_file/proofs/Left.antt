@@ -4,8 +4,7 @@ use Rattle.std.proofs.Common.{sub-eq-zero_of_le, sym, ◌∙◌}
 use native.Mathlib.Omega.{arith}
 use Rattle.std.specs.Prelude.{true, false, List, ◌≡◌, leb, length}
 use Rattle.fields.specs.Bytes.{field_end}
-use Rattle.fields.specs.Verdict.{ask, is_refused, not_refused, first_refusal, first_refused, first_passed}
-use Rattle.fields.specs.declared.Verdict.TheVariants.{Passed}
+use Rattle.fields.specs.Verdict.{ask, is_refused, not_refused, first_refusal, first_refused, first_passed, Passed}
 use Rattle.plan_file.specs.Plans.{cycle_verdict, green_verdict, greens_from}
 use Rattle.plan_file.specs.WellFormed.{cycle_follows, green_follows}
 use Rattle.plan_file.specs.lemmas.Passed.{due_passed}

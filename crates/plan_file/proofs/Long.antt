@@ -6,8 +6,7 @@ use Rattle.std.proofs.Math.Path.{sym}
 use borrow.Author.Tests.{lt-leb, lt-ltb}
 use Rattle.limits.specs.Limits.{most_streams}
 use Rattle.fields.specs.Bytes.{byte_at, number_at, number_in, field_end}
-use Rattle.fields.specs.Verdict.{ask, later_same}
-use Rattle.fields.specs.declared.Verdict.TheVariants.{Passed}
+use Rattle.fields.specs.Verdict.{ask, later_same, Passed}
 use Rattle.plan_file.specs.lemmas.Passed.{due_passed, within_fits}
 use Rattle.plan_file.specs.Plans.{due_verdict, cycle_expected, cycle_verdict, green_expected, green_in_range, green_verdict, greens_from}
 use Rattle.plan_file.specs.Plans.{plan_verdict}

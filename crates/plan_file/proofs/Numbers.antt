@@ -3,7 +3,7 @@ use Rattle.std.specs.Prelude.{ℕ, zero, suc, ◌+◌, Bool, List, leb, ltb, len
 use Rattle.std.proofs.Common.{arith}
 use Rattle.fields.specs.Bytes.{fits, field_end}
 use Rattle.fields.specs.lemmas.Numbers.{Numbered, ask_numbered, first_numbered}
-use Rattle.fields.specs.declared.Verdict.TheVariants.{Passed}
+use Rattle.fields.specs.Verdict.{Passed}
 use Rattle.plan_file.specs.Plans.{due_verdict, cycle_verdict, green_verdict, greens_from, plan_verdict}
 
 due_numbered : (s : List ℕ) (at : ℕ) (expected in_range : Bool) → Numbered (due_verdict s at expected in_range)

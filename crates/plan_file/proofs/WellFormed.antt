@@ -8,8 +8,7 @@ use Rattle.laws.specs.Ranges.{Between}
 use Rattle.laws.specs.Tests.{by_test}
 use Rattle.limits.specs.Limits.{most_seconds, most_streams}
 use Rattle.fields.specs.Bytes.{byte_at, number_at, number_in, field_end}
-use Rattle.fields.specs.Verdict.{ask_passed, both_passed}
-use Rattle.fields.specs.declared.Verdict.TheVariants.{Passed}
+use Rattle.fields.specs.Verdict.{ask_passed, both_passed, Passed}
 use Rattle.plan_file.specs.lemmas.Passed.{due_passed}
 use Rattle.plan_file.specs.Plans.{cycle_expected, cycle_verdict, green_expected, green_in_range, green_verdict, greens_from, plan_verdict}
 use Rattle.plan_file.specs.Plans.{green_at, plan_of}

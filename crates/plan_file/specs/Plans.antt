@@ -3,9 +3,7 @@
 use Rattle.std.specs.Prelude.{ℕ, zero, suc, ◌+◌, ◌-◌, ◌*◌, Bool, ◌&&◌, cond, List, leb, ltb, eqb, length, get_or, replicate}
 use Rattle.laws.specs.Filled.{filled}
 use Rattle.fields.specs.Bytes.{byte_at, number_at, number_in, field_end, fits}
-use Rattle.fields.specs.Verdict.{ask, first_refusal}
-use Rattle.fields.specs.declared.Verdict.{Verdict}
-use Rattle.fields.specs.declared.Verdict.TheVariants.{Passed}
+use Rattle.fields.specs.Verdict.{ask, first_refusal, Verdict, Passed}
 use Rattle.plan_file.specs.declared.Green.{Green}
 use Rattle.plan_file.specs.declared.Plan.{Plan}
 use Rattle.limits.specs.Limits.{most_seconds, most_streams}

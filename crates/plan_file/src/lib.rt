@@ -9,7 +9,7 @@ ghost use Rattle.plan_file.specs.Plans.{cycle_verdict, green_expected, green_in_
 ghost use Rattle.plan_file.specs.Writing.{plan_size, has_room, written};
 ghost use Rattle.plan_file.specs.lemmas.Bytes.{cycle_byte, green_byte, plan_byte};
 
-use fields::{Verdict, ask};
+use fields::{Refusal, ask};
 use limits::{MOST_SECONDS, MOST_STREAMS};
 
 // A stream's green: where in the cycle it begins, and how long it lasts, in seconds.
@@ -20,6 +20,7 @@ pub struct Green {
 }
 
 // The cycle in seconds, and the green of each stream.
+// Stays an array of fixed room: the project has no heap.
 #[derive(Clone, Copy)]
 pub struct Plan {
     pub cycle: u16,
@@ -28,36 +29,28 @@ pub struct Plan {
 
 // The verdict on a plan file for a junction with this many streams: no refusal, or the first of questions 11 to 13, field by field.
 #[tactic(auto, unfolding(crate::specs::Plans::plan_verdict))]
-pub fn verdict(file: &[u8], streams: usize) -> Verdict
+pub fn verdict(file: &[u8], streams: usize) -> Result<(), Refusal>
     ensures { result ≡ plan_verdict file.now streams }
 {
-    let first = cycle_verdict(file);
-    if fields::refused(first) {
-        return first;
-    }
+    cycle_verdict(file)?;
     greens_verdict(file, 5, streams)
 }
 
 // The questions of the fields from a place on: each that is not refused has eight bytes.
-fn greens_verdict(file: &[u8], from: usize, streams: usize) -> Verdict
+fn greens_verdict(file: &[u8], from: usize, streams: usize) -> Result<(), Refusal>
     requires { from ≤ length file.now }
     ensures { result ≡ greens_from streams file.now from 1 }
 {
     let mut at = from;
-    let mut i: usize = 0;
-    while i < streams {
-        let v = green_verdict(file, at, i + 1);
-        if fields::refused(v) {
-            return v;
-        }
+    for i in 0..streams {
+        green_verdict(file, at, i + 1)?;
         at += 8;
-        i += 1;
     }
-    ask(file.len() <= at, 12, at, Verdict::Passed)
+    ask(file.len() <= at, 12, at)
 }
 
 #[tactic(auto, unfolding(crate::specs::Plans::cycle_verdict))]
-fn cycle_verdict(file: &[u8]) -> Verdict
+fn cycle_verdict(file: &[u8]) -> Result<(), Refusal>
     ensures { result ≡ cycle_verdict file.now }
 {
     due_verdict(
@@ -72,11 +65,11 @@ fn cycle_verdict(file: &[u8]) -> Verdict
 pub fn cycle_in_range(cycle: u16) -> bool
     ensures { result ≡ cycle_in_range cycle }
 {
-    (1 <= cycle) & (cycle <= MOST_SECONDS)
+    (1..=MOST_SECONDS).contains(&cycle)
 }
 
 #[tactic(auto, unfolding(crate::specs::Plans::green_verdict))]
-fn green_verdict(file: &[u8], at: usize, n: usize) -> Verdict
+fn green_verdict(file: &[u8], at: usize, n: usize) -> Result<(), Refusal>
     requires { at ≤ length file.now }
     ensures { result ≡ green_verdict file.now at n }
 {
@@ -88,15 +81,15 @@ fn green_verdict(file: &[u8], at: usize, n: usize) -> Verdict
     )
 }
 
-#[tactic(auto, unfolding(crate::specs::Plans::due_verdict))]
-fn due_verdict(file: &[u8], at: usize, expected: bool, in_range: bool) -> Verdict
+#[tactic(auto, using(fields::specs::Bytes::fits_end), unfolding(crate::specs::Plans::due_verdict))]
+fn due_verdict(file: &[u8], at: usize, expected: bool, in_range: bool) -> Result<(), Refusal>
     requires { at ≤ length file.now }
     ensures { result ≡ due_verdict file.now at expected in_range }
 {
-    let thirteen = ask(in_range, 13, at, Verdict::Passed);
-    let twelve = ask(expected, 12, at, thirteen);
-    let eleven = ask(fields::field_end(file, at) <= file.len(), 11, at, twelve);
-    ask(at < file.len(), 12, file.len(), eleven)
+    ask(at < file.len(), 12, file.len())?;
+    ask(fields::field_end(file, at) <= file.len(), 11, at)?;
+    ask(expected, 12, at)?;
+    ask(in_range, 13, at)
 }
 
 #[tactic(auto, unfolding(crate::specs::Plans::cycle_expected))]
@@ -135,10 +128,8 @@ pub fn plan_of(file: &[u8]) -> Plan
         cycle: fields::number(file, 3),
         greens: [no_green(); MOST_STREAMS],
     };
-    let mut i: usize = 0;
-    while i < MOST_STREAMS {
+    for i in 0..MOST_STREAMS {
         plan.greens[i] = green_at(file, i);
-        i += 1;
     }
     plan
 }
@@ -206,10 +197,8 @@ fn write_bytes(p: Plan, size: usize, out: &mut [u8])
     requires few { size ≤ plan_size most_streams }
     ensures { out.new ≡ filled (plan_byte p) out.old size }
 {
-    let mut k: usize = 0;
-    while k < size {
+    for k in 0..size {
         out[k] = plan_byte(p, k);
-        k += 1;
     }
 }
 
@@ -251,19 +240,13 @@ fn cycle_byte(cycle: u16, k: usize) -> u8
     requires { k < 5 }
     ensures { result ≡ cycle_byte cycle k }
 {
-    if k == 0 {
-        return 0x11;
+    match k {
+        0 => 0x11,
+        1 => 0,
+        2 => 2,
+        3 => high(cycle),
+        _ => low(cycle),
     }
-    if k == 1 {
-        return 0;
-    }
-    if k == 2 {
-        return 2;
-    }
-    if k == 3 {
-        return high(cycle);
-    }
-    low(cycle)
 }
 
 #[tactic(auto, unfolding(crate::specs::lemmas::Bytes::green_byte, crate::specs::Writing::green_field))]
@@ -272,39 +255,27 @@ fn green_byte(g: Green, n: usize, k: usize) -> u8
     requires place { k < 8 }
     ensures { result ≡ green_byte g n k }
 {
-    if k == 0 {
-        return 0x12;
+    match k {
+        0 => 0x12,
+        1 => 0,
+        2 => 5,
+        3 => n as u8,
+        4 => high(g.start),
+        5 => low(g.start),
+        6 => high(g.length),
+        _ => low(g.length),
     }
-    if k == 1 {
-        return 0;
-    }
-    if k == 2 {
-        return 5;
-    }
-    if k == 3 {
-        return n as u8;
-    }
-    if k == 4 {
-        return high(g.start);
-    }
-    if k == 5 {
-        return low(g.start);
-    }
-    if k == 6 {
-        return high(g.length);
-    }
-    low(g.length)
 }
 
 // The two bytes of a number, the high one first in a file.
 pub fn high(n: u16) -> u8
     ensures { result ≡ n / 256 }
 {
-    (n / 256) as u8
+    n.to_be_bytes()[0]
 }
 
 pub fn low(n: u16) -> u8
     ensures { result ≡ n % 256 }
 {
-    (n % 256) as u8
+    n.to_be_bytes()[1]
 }

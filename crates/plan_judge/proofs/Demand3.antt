@@ -9,7 +9,7 @@
 -- says what it then is), a plan file well-formed where `planVerdict` refuses nothing (plan_file/specs/WellFormed.antt), and a plan accepted where
 -- `judgement` refuses nothing.
 use Rattle.std.specs.Prelude.{ℕ, List, ◌↔◌, ◌≡◌}
-use Rattle.fields.specs.declared.Verdict.TheVariants.{Passed}
+use Rattle.fields.specs.Verdict.{Passed}
 use Rattle.junction_file.specs.Reading.{reading}
 use Rattle.plan_file.specs.Plans.{plan_verdict, plan_of}
 use Rattle.plan_judge.proofs.lemmas.Accepted.{accepted_exactly, accepted_whole}

@@ -2,8 +2,7 @@
 use Rattle.std.specs.Prelude.{ℕ, List, ◌↔◌, ◌≡◌}
 use Rattle.std.proofs.Common.{arith}
 use Rattle.fields.specs.lemmas.Numbers.{Numbered, first_numbered, each_numbered, passed_number}
-use Rattle.fields.specs.Verdict.{number_of}
-use Rattle.fields.specs.declared.Verdict.TheVariants.{Passed}
+use Rattle.fields.specs.Verdict.{number_of, Passed}
 use Rattle.junction_file.proofs.Numbers.{reading_numbered}
 use Rattle.junction_file.specs.Reading.{reading}
 use Rattle.plan_file.proofs.Numbers.{plan_numbered}

@@ -1,7 +1,6 @@
 -- A plan whose numbers are in range is judged by its own file as by the rules; and what is known of two files that are accepted.
 use Rattle.std.specs.Prelude.{ℕ, List, ◌≡◌}
-use Rattle.fields.specs.Verdict.{both_passed}
-use Rattle.fields.specs.declared.Verdict.TheVariants.{Passed}
+use Rattle.fields.specs.Verdict.{both_passed, Passed}
 use Rattle.junction.specs.declared.Junction.{Junction}
 use Rattle.junction_file.specs.Reading.{reading}
 use Rattle.junction_file.specs.Taken.{Taken}

@@ -1,7 +1,6 @@
 -- The judge's answer to a junction file and a plan file: the junction's questions first, then the plan's, then the rules.
 use Rattle.std.specs.Prelude.{ℕ, List}
-use Rattle.fields.specs.Verdict.{first_refusal}
-use Rattle.fields.specs.declared.Verdict.{Verdict}
+use Rattle.fields.specs.Verdict.{first_refusal, Verdict}
 use Rattle.junction.specs.declared.Junction.{Junction}
 use Rattle.junction_file.specs.Reading.{reading}
 use Rattle.plan_file.specs.Plans.{plan_verdict, plan_of}

@@ -1,6 +1,6 @@
 -- A plan whose numbers are in range is judged by its own file as by the rules; and what is known of two files that are accepted.
 use Rattle.std.specs.Prelude.{◌≡◌}
-use Rattle.fields.specs.declared.Verdict.TheVariants.{Passed}
+use Rattle.fields.specs.Verdict.{Passed}
 use Rattle.junction.specs.declared.Junction.{Junction}
 use Rattle.junction_file.specs.Taken.{Taken}
 use Rattle.plan_file.specs.WellFormed.{PlanRight}

@@ -2,9 +2,7 @@
 use Rattle.std.specs.Prelude.{ℕ, ◌+◌, ◌-◌, ◌*◌, Bool, ◌&&◌, ◌||◌, not, cond, leb}
 use Rattle.streams.specs.declared.Stream.{Stream}
 use Rattle.flows.specs.Needs.{need_at}
-use Rattle.fields.specs.Verdict.{ask_each}
-use Rattle.fields.specs.declared.Verdict.{Verdict}
-use Rattle.fields.specs.declared.Verdict.TheVariants.{Passed}
+use Rattle.fields.specs.Verdict.{ask_each, Verdict, Passed}
 use Rattle.junction.specs.declared.Junction.{Junction}
 use Rattle.junction_places.specs.Places.{stream_numbered, zone_numbered}
 use Rattle.streams.specs.Kinds.{is_car}

@@ -2,14 +2,12 @@
 #![tactic(auto)]
 
 ghost use Rattle.std.specs.Prelude.{◌≡◌, ◌+◌, ◌≤◌, ◌<◌};
-ghost use Rattle.limits.specs.Limits.{most_zones};
-ghost use Rattle.fields.specs.Verdict.{first_failing};
-ghost use Rattle.fields.specs.declared.Verdict.TheVariants.{Refused};
+ghost use Rattle.fields.specs.Verdict.{Passed, ask_each};
 ghost use Rattle.junction_file.specs.Taken.{Taken};
 ghost use Rattle.junction_tables.specs.Tables.{loads_of, conflicts_of};
 ghost use Rattle.plan_rules.specs.Rules.{off as off_of, need_met_by, need_met, enough_capacity, capacity_met_by, capacity_met, zone_clear, zone_met, rules_verdict};
 
-use fields::Verdict;
+use fields::Refusal;
 use junction::Junction;
 use junction_tables::{Conflict, Conflicts, Load, Loads};
 use plan_file::{Green, Plan};
@@ -18,91 +16,52 @@ use streams::Stream;
 // The verdict on a plan for a junction: no refusal, or 15 or 16 with the lowest stream, or 17 with the lowest zone, that breaks the rule.
 // Each rule is asked of all streams or zones before the next.
 #[tactic(auto, unfolding(crate::specs::Rules::rules_verdict, fields::specs::Verdict::ask_each))]
-pub fn verdict(j: Junction, p: Plan) -> Verdict
+pub fn verdict(j: Junction, p: Plan) -> Result<(), Refusal>
     requires { Taken j }
     ensures { result ≡ rules_verdict j p }
 {
-    let streams = j.held.streams;
-    let zones = j.held.zones;
-    let short = first_need_unmet(j, p);
-    if short < streams {
-        return broken(15, short);
-    }
-    let unserved = first_capacity_unmet(j, junction_tables::loads_of(j), p);
-    if unserved < streams {
-        return broken(16, unserved);
-    }
-    let unclear = first_zone_unmet(j, junction_tables::conflicts_of(j), p);
-    if unclear < zones {
-        return broken(17, unclear);
-    }
-    Verdict::Passed
+    ask_needs(j, p)?;
+    ask_capacities(j, junction_tables::loads_of(j), p)?;
+    ask_zones(j, junction_tables::conflicts_of(j), p)
 }
 
-// A rule broken at a place, from 0.
-fn broken(rule: u8, place: usize) -> Verdict
-    requires { place < most_zones }
-    ensures { result ≡ Refused rule (place + 1) }
-{
-    Verdict::Refused {
-        number: rule,
-        place: place + 1,
-    }
-}
-
-// The first place of a stream without its needed green; the number of streams where each has it.
-#[tactic(auto, unfolding(fields::specs::Verdict::first_failing))]
-fn first_need_unmet(j: Junction, p: Plan) -> usize
+// 15: has each stream its needed green?
+fn ask_needs(j: Junction, p: Plan) -> Result<(), Refusal>
     requires { Taken j }
-    ensures { result ≡ first_failing (need_met j p) j.held.streams }
+    ensures { result ≡ ask_each (need_met j p) 15 j.held.streams Passed }
 {
-    let streams = j.held.streams;
-    let mut i: usize = 0;
-    while i < streams {
-        if !need_met(j.streams[i], p.greens[i], p.cycle) {
-            return i;
-        }
-        i += 1;
-    }
-    i
+    fields::ask_each(
+        15,
+        j.held.streams,
+        |i| need_met(j.streams[i], p.greens[i], p.cycle),
+    )
 }
 
-// The first place of a car stream without its capacity; the number of streams where each has it.
-#[tactic(auto, unfolding(fields::specs::Verdict::first_failing))]
-fn first_capacity_unmet(j: Junction, loads: Loads, p: Plan) -> usize
+// 16: has each car stream its capacity?
+fn ask_capacities(j: Junction, loads: Loads, p: Plan) -> Result<(), Refusal>
     requires taken { Taken j }
     requires loads { loads ≡ loads_of j }
-    ensures { result ≡ first_failing (capacity_met j p) j.held.streams }
+    ensures { result ≡ ask_each (capacity_met j p) 16 j.held.streams Passed }
 {
-    let streams = j.held.streams;
-    let mut i: usize = 0;
-    while i < streams {
-        if !capacity_met(j.streams[i], loads.of[i], p.greens[i], p.cycle) {
-            return i;
-        }
-        i += 1;
-    }
-    i
+    fields::ask_each(
+        16,
+        j.held.streams,
+        |i| capacity_met(j.streams[i], loads.of[i], p.greens[i], p.cycle),
+    )
 }
 
-// The first place of a zone whose streams' greens do not keep their entries apart; the number of zones where none is.
-#[tactic(auto, unfolding(fields::specs::Verdict::first_failing))]
-fn first_zone_unmet(j: Junction, conflicts: Conflicts, p: Plan) -> usize
+// 17: do the greens of each zone's streams keep their entries apart?
+fn ask_zones(j: Junction, conflicts: Conflicts, p: Plan) -> Result<(), Refusal>
     requires taken { Taken j }
     requires conflicts { conflicts ≡ conflicts_of j }
-    ensures { result ≡ first_failing (zone_met j p) j.held.zones }
+    ensures { result ≡ ask_each (zone_met j p) 17 j.held.zones Passed }
 {
-    let mut i: usize = 0;
-    while i < j.held.zones {
+    fields::ask_each(17, j.held.zones, |i| {
         let c = conflicts.of[i];
         let a = c.a as usize - 1;
         let b = c.b as usize - 1;
-        if !zone_clear(p.cycle, p.greens[a], p.greens[b], c) {
-            return i;
-        }
-        i += 1;
-    }
-    i
+        zone_clear(p.cycle, p.greens[a], p.greens[b], c)
+    })
 }
 
 // Whether a stream with this green has its needed green at the cycle.
@@ -147,5 +106,5 @@ fn off(cycle: u16, from: u16, to: u16) -> u64
     if from <= to {
         return to as u64 - from as u64;
     }
-    laws::above(to as u64 + cycle as u64, from as u64)
+    (to as u64 + cycle as u64).saturating_sub(from as u64)
 }

@@ -1,71 +1,63 @@
-// What the programs `plan`, `shift` and `portable` tell: a plan, or a refusal.
+// What the programs `plan`, `shift` and `portable` print: a plan, which is also kept where a new file is named, and its lines.
 #![tactic(auto)]
 
-use console::put;
+use console::Program;
 use limits::MOST_STREAMS;
-use plan_file::{Green, Plan};
+use plan_file::Green;
+use std::fmt;
+use std::fmt::Display;
 
-// Writes a plan file where argument i names a new file, then prints the plan: the cycle, and each stream's number, start and length.
-pub fn tell_plan(rt: &HostRuntime, program: &[u8], i: usize, plan: &[u8]) {
-    if kept(rt, program, i, plan) {
-        let mut text = [0u8; 512];
-        let n = put_plan(plan, &mut text);
-        console::write_text(rt, program, &text, n);
+// The line of a cycle.
+#[derive(Clone, Copy)]
+pub struct CycleLine(pub u16);
+
+impl Display for CycleLine {
+    fn fmt<W: fmt::Write>(&self, f: &mut fmt::Formatter<W>) -> fmt::Result {
+        let CycleLine(cycle) = *self;
+        writeln!(f, "cycle {cycle}")
     }
 }
 
-// Prints a refusal.
-pub fn tell_refusal(rt: &HostRuntime, program: &[u8], number: u8, place: usize) {
-    let mut text = [0u8; 64];
-    let n = console::put_refusal(&mut text, 0, number, place);
-    console::write_text(rt, program, &text, n);
+// The line of a green: the number of its stream or approach, its start and its length.
+#[derive(Clone, Copy)]
+pub struct GreenLine {
+    pub number: usize,
+    pub green: Green,
 }
 
-// Whether the file stands where one is named.
-fn kept(rt: &HostRuntime, program: &[u8], i: usize, plan: &[u8]) -> bool {
-    if !console::has_argument(rt, i) {
-        return true;
+impl Display for GreenLine {
+    fn fmt<W: fmt::Write>(&self, f: &mut fmt::Formatter<W>) -> fmt::Result {
+        let GreenLine { number, green } = *self;
+        writeln!(f, "{number} {} {}", green.start, green.length)
     }
-    console::write_new(rt, program, i, plan)
 }
 
-fn put_plan(plan: &[u8], out: &mut [u8]) -> usize {
-    let p = plan_file::plan_of(plan);
-    let line = put_cycle(p.cycle, out, 0);
-    put_greens(p, plan.len(), out, line)
-}
+// The lines of a plan file: its cycle, and the green of each stream.
+#[derive(Clone, Copy)]
+struct PlanLines<'a>(&'a [u8]);
 
-// The cycle's line.
-pub fn put_cycle(cycle: u16, out: &mut [u8], at: usize) -> usize {
-    let word = put(out, at, b"cycle ");
-    let number = console::put_number(out, word, cycle as u64);
-    put(out, number, b"\n")
-}
-
-// A line for each green of a plan file of so many bytes.
-fn put_greens(p: Plan, size: usize, out: &mut [u8], at: usize) -> usize {
-    let mut next = at;
-    let mut i: usize = 0;
-    while i < MOST_STREAMS {
-        if size <= 5 + 8 * i {
-            break;
+impl Display for PlanLines<'_> {
+    fn fmt<W: fmt::Write>(&self, f: &mut fmt::Formatter<W>) -> fmt::Result {
+        let PlanLines(file) = *self;
+        let plan = plan_file::plan_of(file);
+        write!(f, "{}", CycleLine(plan.cycle))?;
+        for number in 1..=streams(file) {
+            let green = plan_file::green_of(plan, number);
+            write!(f, "{}", GreenLine { number, green })?;
         }
-        next = put_stream(p, i + 1, out, next);
-        i += 1;
+        Ok(())
     }
-    next
 }
 
-fn put_stream(p: Plan, n: usize, out: &mut [u8], at: usize) -> usize {
-    put_green(n, plan_file::green_of(p, n), out, at)
+// How many streams a plan file has: its cycle takes five bytes, a stream eight.
+fn streams(file: &[u8]) -> usize {
+    file.len().saturating_sub(5).div_ceil(8).min(MOST_STREAMS)
 }
 
-// A line of a number, a stream's or an approach's, with its green's start and length.
-pub fn put_green(n: usize, green: Green, out: &mut [u8], at: usize) -> usize {
-    let number = console::put_number(out, at, n as u64);
-    let first = put(out, number, b" ");
-    let start = console::put_number(out, first, green.start as u64);
-    let second = put(out, start, b" ");
-    let length = console::put_number(out, second, green.length as u64);
-    put(out, length, b"\n")
+// Writes a plan file where argument i names a new file, then prints the plan.
+pub fn tell_plan(program: Program<'_>, i: usize, plan: &[u8]) {
+    if program.has_argument(i) && program.write_new(i, plan).is_none() {
+        return;
+    }
+    program.print(PlanLines(plan));
 }

@@ -1,11 +1,12 @@
 -- Every plan that is worked out is well-formed and accepted: the bytes written, judged with the junction file that they were worked out from.
-use Rattle.std.specs.Prelude.{ℕ, ◌≤◌, List, ◌≡◌, length, take}
+use Rattle.planner.specs.declared.WorkedOut.{WorkedOut}
+use Rattle.fields.specs.declared.Refusal.{Refusal}
+use Rattle.std.specs.Prelude.{ℕ, ◌≤◌, List, ◌≡◌, length, take, Result, Ok, Err, IfOk}
 use Rattle.std.proofs.Common.{zero-le, arith, true≢false, sym, ◌∙◌, ap}
 use Rattle.laws.specs.Ranges.{Between}
 use Rattle.laws.specs.Tests.{by_test}
 use Rattle.limits.specs.Limits.{most_seconds}
-use Rattle.fields.specs.Verdict.{is_refused, not_refused}
-use Rattle.fields.specs.declared.Verdict.TheVariants.{Passed}
+use Rattle.fields.specs.Verdict.{is_refused, not_refused, Passed, answered_ok}
 use Rattle.junction.specs.declared.Junction.{Junction}
 use Rattle.junction_file.specs.Reading.{reading}
 use Rattle.junction_file.specs.Taken.{Taken}
@@ -18,7 +19,7 @@ use Rattle.plan_judge.proofs.Demand3.{only_acceptable}
 use Rattle.plan_judge.specs.Judgement.{plan_judgement, judgement}
 use Rattle.planner.specs.lemmas.Cases.{first_tried_range, cycle_works}
 use Rattle.planner.proofs.lemmas.Cases.{cycle_found, room_found, buffer_passed, worked_verdict}
-use Rattle.planner.specs.WorkingOut.{junction_verdict, junction_worked, junction_buffer, worked, buffer}
+use Rattle.planner.specs.WorkingOut.{junction_verdict, junction_worked, junction_buffer, worked, buffer, worked_or_refused}
 use Rattle.planner.specs.Planned.{works_accepted}
 
 module _ (j : Junction) (t : Taken j) (lent : List ℕ) (e : junction_verdict j (length lent) ≡ Passed) where
@@ -61,3 +62,11 @@ size_within junction room =
     by_test (is_refused (reading junction).verdict) (λ e. rw e zero-le)
     (λ e. by_test (is_refused (junction_verdict j room)) (λ r. rw (e, r) zero-le)
     (λ r. rw (e, r) (has_room_lem j.held.streams room (room_found j room (not_refused _ r))).1))
+
+-- so is that of an answer
+pub answer_within : (junction : List ℕ) (size : ℕ) (r : Result WorkedOut Refusal) → r ≡ worked_or_refused (worked junction size)
+    → IfOk r (λ w. w.size ≤ size)
+answer_within junction size (Ok w) e =
+    let is = answered_ok (worked junction size).verdict _ (sym e) in
+    rw (← is.1) (size_within junction size)
+answer_within junction size (Err r) e = tt

@@ -4,8 +4,7 @@ use Rattle.std.proofs.Common.{true≢false, sym, ◌∙◌, ap}
 use Rattle.laws.specs.Ranges.{Between}
 use Rattle.laws.specs.Tests.{by_test}
 use Rattle.limits.specs.Limits.{most_seconds}
-use Rattle.fields.specs.Verdict.{is_refused, not_refused}
-use Rattle.fields.specs.declared.Verdict.TheVariants.{Passed}
+use Rattle.fields.specs.Verdict.{is_refused, not_refused, Passed}
 use Rattle.junction.specs.declared.Junction.{Junction}
 use Rattle.junction_file.specs.Taken.{Taken}
 use Rattle.plan_file.specs.Writing.{plan_file}

@@ -5,94 +5,74 @@
 
 ghost use Rattle.std.specs.Prelude.{◌≤◌};
 
-use console::put;
-use roadworks::{Approach, Portable, Timing};
+use console::{Decimal, Program};
+use plan_text::{CycleLine, GreenLine};
+use roadworks::{Approach, Timing};
+use std::fmt;
+use std::fmt::Display;
 
-// Whether three arguments are numbers, and the approach that they make.
+const WORDS: &str = "STRETCH SPEED FLOW S WAITING FLOW S WAITING
+stretch and available waiting lengths in m, flows and saturation flows in E/h, approach 1 before approach 2;
+speed in km/h: the mean speed of clearing cars, measured on the site or assumed by the annex";
+
+// What is asked.
 #[derive(Clone, Copy)]
-struct Given {
-    valid: bool,
-    approach: Approach,
+struct Site {
+    stretch: usize,
+    speed: usize,
+    first: Approach,
+    second: Approach,
+}
+
+// The lines of a timing: the table's times, the cycle and both greens.
+#[derive(Clone, Copy)]
+struct TimingLines(Timing);
+
+impl Display for TimingLines {
+    fn fmt<W: fmt::Write>(&self, f: &mut fmt::Formatter<W>) -> fmt::Result {
+        let TimingLines(timing) = *self;
+        writeln!(f, "t {}", Decimal::tenths(timing.table.clearing.into()))?;
+        writeln!(f, "L {}", Decimal::tenths(timing.table.lost.into()))?;
+        write!(f, "{}", CycleLine(timing.cycle))?;
+        for (number, green) in [(1, timing.greens.first), (2, timing.greens.second)] {
+            write!(f, "{}", GreenLine { number, green })?;
+        }
+        Ok(())
+    }
 }
 
 fn main(rt: HostRuntime) {
-    let stretch = console::number_argument(&rt, 1);
-    let speed = console::number_argument(&rt, 2);
-    let first = approach_arguments(&rt, 3);
-    let second = approach_arguments(&rt, 6);
-    if !(console::has_argument(&rt, 8)
-        & !console::has_argument(&rt, 9)
-        & stretch.valid
-        & speed.valid
-        & first.valid
-        & second.valid)
-    {
-        usage(&rt);
+    let program = Program::new(&rt, "portable", WORDS);
+    let Some(site) = site_arguments(program) else {
+        program.usage();
         return;
+    };
+    match roadworks::work_out(site.stretch, site.speed, site.first, site.second) {
+        Ok(timing) => program.print(TimingLines(timing)),
+        Err(refusal) => program.print_line(refusal),
     }
-    tell(
-        &rt,
-        roadworks::work_out(stretch.value, speed.value, first.approach, second.approach),
-    );
 }
 
-fn usage(rt: &HostRuntime) {
-    console::usage(
-        rt,
-        b"portable STRETCH SPEED FLOW S WAITING FLOW S WAITING
-stretch and available waiting lengths in m, flows and saturation flows in E/h, approach 1 before approach 2;
-speed in km/h: the mean speed of clearing cars, measured on the site or assumed by the annex",
-    );
+// What the arguments ask, where they are eight numbers.
+fn site_arguments(program: Program<'_>) -> Option<Site> {
+    if program.has_argument(9) {
+        return None;
+    }
+    Some(Site {
+        stretch: program.number(1)?,
+        speed: program.number(2)?,
+        first: approach_arguments(program, 3)?,
+        second: approach_arguments(program, 6)?,
+    })
 }
 
 // The approach of argument i and the two after it.
-fn approach_arguments(rt: &HostRuntime, i: usize) -> Given
+fn approach_arguments(program: Program<'_>, i: usize) -> Option<Approach>
     requires { i ≤ 6 }
 {
-    let flow = console::number_argument(rt, i);
-    let saturation = console::number_argument(rt, i + 1);
-    let waiting = console::number_argument(rt, i + 2);
-    Given {
-        valid: flow.valid & saturation.valid & waiting.valid,
-        approach: Approach {
-            flow: flow.value,
-            saturation: saturation.value,
-            waiting: waiting.value,
-        },
-    }
-}
-
-fn tell(rt: &HostRuntime, answer: Portable) {
-    match answer {
-        Portable::Refused { number, place } => plan_text::tell_refusal(
-            rt,
-            b"portable",
-            number,
-            place,
-        ),
-        Portable::Timed(timing) => tell_timing(rt, timing),
-    }
-}
-
-fn tell_timing(rt: &HostRuntime, timing: Timing) {
-    let mut text = [0u8; 128];
-    let n = put_timing(timing, &mut text);
-    console::write_text(rt, b"portable", &text, n);
-}
-
-fn put_timing(timing: Timing, out: &mut [u8]) -> usize {
-    let table = timing.table;
-    let greens = timing.greens;
-    let clearing = put_time(b"t ", table.clearing, out, 0);
-    let lost = put_time(b"L ", table.lost, out, clearing);
-    let cycle = plan_text::put_cycle(timing.cycle, out, lost);
-    let first = plan_text::put_green(1, greens.first, out, cycle);
-    plan_text::put_green(2, greens.second, out, first)
-}
-
-// A line of a time of the table.
-fn put_time(word: &[u8], tenths: u16, out: &mut [u8], at: usize) -> usize {
-    let name = put(out, at, word);
-    let number = console::put_tenths(out, name, tenths as u64);
-    put(out, number, b"\n")
+    Some(Approach {
+        flow: program.number(i)?,
+        saturation: program.number(i + 1)?,
+        waiting: program.number(i + 2)?,
+    })
 }

@@ -7,7 +7,7 @@ use borrow.Author.Tests.{leb-true, le-leb, ltb-true}
 use Rattle.laws.specs.Ranges.{Between}
 use Rattle.laws.specs.Tests.{both_left, both_right}
 use Rattle.limits.specs.Limits.{most_seconds, no_cycle}
-use Rattle.fields.specs.declared.Verdict.TheVariants.{Passed}
+use Rattle.fields.specs.Verdict.{Passed}
 use Rattle.stretches.proofs.Nearest.{t_nearest, l_nearest}
 use Rattle.stretches.specs.Table.{listed}
 use Rattle.phase_lengths.specs.First.{first_length_least}

@@ -1,12 +1,10 @@
 -- Each refusal exactly: 25, 26, 21, 22 and 27, each where its question fails and those before it do not; and the signals where none fails.
-use Rattle.std.specs.Prelude.{ℕ, ◌≤◌, ◌<◌, true, false, cond, ◌↔◌, ◌≡◌, refl, ltb}
+use Rattle.std.specs.Prelude.{ℕ, ◌≤◌, ◌<◌, true, false, cond, ◌↔◌, ◌≡◌, refl, ltb, Ok, Err}
 use Rattle.std.proofs.Common.{arith, true≢false, sym, ap}
 use borrow.Author.Tests.{ltb-true, ltb-false, lt-ltb, le-ltb}
 use Rattle.laws.specs.Ranges.{Between}
 use Rattle.limits.specs.Limits.{most_seconds, no_cycle}
-use Rattle.fields.specs.Verdict.{number_of, place_of, is_refused, ask, ask_passed, ask_here, ask_after}
-use Rattle.fields.specs.declared.Verdict.{Verdict}
-use Rattle.fields.specs.declared.Verdict.TheVariants.{Passed, Refused}
+use Rattle.fields.specs.Verdict.{number_of, place_of, is_refused, ask, ask_passed, ask_here, ask_after, Verdict, Passed, Refused}
 use Rattle.stretches.specs.Table.{listed}
 use Rattle.phase_lengths.specs.Phases.{ratio_sum}
 use Rattle.roadworks.proofs.Cycle.{no_cycle_lem}
@@ -103,10 +101,10 @@ module _ (stretch speed : ℕ) (a b : Approach) where
 -- the answer has the verdict's number and place, and the figures where nothing is refused, else 0 for each
 pub unless_number : (v : Verdict) (x : Timing) → (refusal (unless v x) ≡ number_of v) × (refused_at (unless v x) ≡ place_of v)
 unfolding unless refusal refused_at
-unless_number Passed x = (refl, refl)
-unless_number (Refused number place) x = (refl, refl)
+unless_number (Ok u) x = (refl, refl)
+unless_number (Err r) x = (refl, refl)
 
 pub unless_figures : (v : Verdict) (x : Timing) → figures (unless v x) ≡ cond (is_refused v) no_timing x
 unfolding unless figures
-unless_figures Passed x = refl
-unless_figures (Refused number place) x = refl
+unless_figures (Ok u) x = refl
+unless_figures (Err r) x = refl

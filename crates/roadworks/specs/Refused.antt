@@ -1,9 +1,7 @@
 -- Each refusal exactly: 25, 26, 21, 22 and 27, each where its question fails and those before it do not; and the signals where none fails.
 use Rattle.std.specs.Prelude.{ℕ, ◌<◌, Bool, true, ◌&&◌, ◌≡◌, ltb}
 use Rattle.limits.specs.Limits.{no_cycle}
-use Rattle.fields.specs.Verdict.{ask}
-use Rattle.fields.specs.declared.Verdict.{Verdict}
-use Rattle.fields.specs.declared.Verdict.TheVariants.{Passed}
+use Rattle.fields.specs.Verdict.{ask, Verdict, Passed}
 use Rattle.stretches.specs.Table.{listed}
 use Rattle.phase_lengths.specs.Phases.{ratio_sum}
 use Rattle.roadworks.specs.Roadworks.{in_range, asked_of, phases_of, cycle_of, enough_waiting, portable_verdict}

@@ -1,6 +1,7 @@
 -- Portable signals for road works: one narrowed stretch, one lane for both directions, an approach at each end (document 02, 2026-07; annex, part
 -- B), in the order of the request.
-use Rattle.std.specs.Prelude.{ℕ, ◌+◌, ◌*◌, Bool, true, false, ◌&&◌, [], ◌∷◌, leb, ltb}
+use Rattle.fields.specs.declared.Refusal.{Refusal}
+use Rattle.std.specs.Prelude.{ℕ, ◌+◌, ◌*◌, Bool, true, false, ◌&&◌, [], ◌∷◌, leb, ltb, Result, Ok, Err}
 use Rattle.laws.specs.Rounding.{up}
 use Rattle.laws.specs.Search.{first_below}
 use Rattle.limits.specs.Limits.{no_cycle, least_flow, greatest_flow}
@@ -8,9 +9,7 @@ use Rattle.flows.specs.Needs.{car_need}
 use Rattle.flows.specs.Saturation.{flow_ratio}
 use Rattle.stretches.specs.Table.{listed, clearing_length, table_times}
 use Rattle.stretches.specs.declared.TableTimes.{TableTimes}
-use Rattle.fields.specs.Verdict.{ask}
-use Rattle.fields.specs.declared.Verdict.{Verdict}
-use Rattle.fields.specs.declared.Verdict.TheVariants as verdict
+use Rattle.fields.specs.Verdict.{ask, Verdict, Passed, answered}
 use Rattle.junction_tables.specs.declared.Load.{Load}
 use Rattle.phase_lengths.specs.Phases.{no_phase, ratio_sum, lost_time, first_length}
 use Rattle.phase_lengths.specs.declared.Phase.{Phase}
@@ -25,8 +24,6 @@ use Rattle.roadworks.specs.declared.Approach.{Approach}
 use Rattle.roadworks.specs.declared.Asked.{Asked}
 use Rattle.roadworks.specs.declared.Greens.{Greens}
 use Rattle.roadworks.specs.declared.Timing.{Timing}
-use Rattle.roadworks.specs.declared.Portable.{Portable}
-use Rattle.roadworks.specs.declared.Portable.TheVariants.{Refused, Timed}
 
 -- 26: is each flow and each S from 1 to 9,999?
 abbrev pub hourly : ℕ → Bool
@@ -94,7 +91,7 @@ unfoldable pub later_verdict : Asked → Approach → Approach → Verdict
 later_verdict w a b =
     ask (ltb (ratio_sum (phases_of w)) 10000) 21 0
     (ask (ltb (cycle_of w) no_cycle) 22 0
-    (ask (enough_waiting a (cycle_of w) && enough_waiting b (cycle_of w)) 27 0 verdict.Passed))
+    (ask (enough_waiting a (cycle_of w) && enough_waiting b (cycle_of w)) 27 0 Passed))
 
 unfoldable pub portable_verdict : ℕ → ℕ → Approach → Approach → Verdict
 portable_verdict stretch speed a b =
@@ -111,9 +108,11 @@ timing stretch speed a b =
     timing_at (table_times stretch speed) (phases_of (asked_of stretch speed a b)) (cycle_of (asked_of stretch speed a b))
 
 -- a refusal, or the signals
+abbrev pub Portable : Type 0
+Portable = Result Timing Refusal
+
 unfoldable pub unless : Verdict → Timing → Portable
-unless verdict.Passed x = Timed x
-unless (verdict.Refused number place) x = Refused number place
+unless v x = answered v x
 
 unfoldable pub timed : ℕ → ℕ → Approach → Approach → Portable
 timed stretch speed a b = unless (later_verdict (asked_of stretch speed a b) a b) (timing stretch speed a b)
@@ -123,17 +122,17 @@ portable stretch speed a b = unless (portable_verdict stretch speed a b) (timing
 
 -- the paper's number and place of a refusal, 0 where nothing is refused
 unfoldable pub refusal : Portable → ℕ
-refusal (Refused number place) = number
-refusal (Timed x) = 0
+refusal (Err r) = r.number
+refusal (Ok x) = 0
 
 unfoldable pub refused_at : Portable → ℕ
-refused_at (Refused number place) = place
-refused_at (Timed x) = 0
+refused_at (Err r) = r.place
+refused_at (Ok x) = 0
 
 -- the figures, each 0 where something is refused
 abbrev pub no_timing : Timing
 no_timing = record { table = record { clearing = 0; lost = 0 }; cycle = 0; greens = record { first = no_green; second = no_green } }
 
 unfoldable pub figures : Portable → Timing
-figures (Refused number place) = no_timing
-figures (Timed x) = x
+figures (Err r) = no_timing
+figures (Ok x) = x

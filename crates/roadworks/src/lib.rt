@@ -2,7 +2,7 @@
 // annex, part B). The steps from the flow ratios on are the planner's, by its own functions, and the rules are the judge's.
 #![tactic(auto)]
 
-ghost use Rattle.std.specs.Prelude.{true, ◌≡◌, ◌≤◌};
+ghost use Rattle.std.specs.Prelude.{true, ◌≡◌, ◌≤◌, ◌<◌, IfSome, IfNone};
 ghost use Rattle.limits.specs.Limits.{most_seconds, no_cycle};
 ghost use Rattle.stretches.specs.Table.{listed};
 ghost use Rattle.phase_greens.specs.Fills.{Right};
@@ -10,9 +10,9 @@ ghost use Rattle.phase_greens.specs.Greens.{sharing, gives_greens};
 ghost use Rattle.phase_greens.specs.Slots.{slots_of};
 ghost use Rattle.roadworks.specs.Roadworks.{hourly as is_hourly, in_range, intergreen as intergreen_of, load_of, approach_phase, phases_of};
 ghost use Rattle.roadworks.specs.Roadworks.{served as is_served, greens_at, rules_kept, works, cycle_from, enough_waiting, timing_at, timed as timed_of, portable};
-ghost use Rattle.roadworks.specs.declared.Portable.TheVariants.{Refused};
 
 use cycle_search::slot_green;
+use fields::{Refusal, ask};
 use flows::CAR_NEED;
 use junction_tables::{Conflict, Load};
 use limits::{GREATEST_FLOW, LEAST_FLOW, NO_CYCLE};
@@ -45,13 +45,6 @@ pub struct Timing {
     pub greens: Greens,
 }
 
-// A refusal, or the signals.
-#[derive(Clone, Copy)]
-pub enum Portable {
-    Refused { number: u8, place: usize },
-    Timed(Timing),
-}
-
 // What the approaches ask of a plan: M for both directions, and each one's flow and saturation flow.
 #[derive(Clone, Copy)]
 pub struct Asked {
@@ -63,22 +56,17 @@ pub struct Asked {
 // The answer to every stretch in metres, speed in km/h and two approaches. Refused, each at place 0: 25, stretch or speed is not listed; 26, a flow
 // or a saturation flow is not from 1 to 9,999; 21, the flow ratios sum to 10,000 or more; 22, no length from T0 to 180 s works; 27, an available
 // waiting length is not above the needed one.
-pub fn work_out(stretch: usize, speed: usize, first: Approach, second: Approach) -> Portable
+pub fn work_out(
+    stretch: usize,
+    speed: usize,
+    first: Approach,
+    second: Approach,
+) -> Result<Timing, Refusal>
     ensures { result ≡ portable stretch speed first second }
 {
-    if !stretches::listed(stretch, speed) {
-        return refused(25);
-    }
-    if !(in_range(first) & in_range(second)) {
-        return refused(26);
-    }
+    ask(stretches::listed(stretch, speed), 25, 0)?;
+    ask(in_range(first) & in_range(second), 26, 0)?;
     timed(stretch, speed, first, second)
-}
-
-fn refused(number: u8) -> Portable
-    ensures { result ≡ Refused number 0 }
-{
-    Portable::Refused { number, place: 0 }
 }
 
 // 26 for an approach.
@@ -93,12 +81,12 @@ fn in_range(a: Approach) -> bool
 fn hourly(flow: usize) -> bool
     ensures { result ≡ is_hourly flow }
 {
-    (LEAST_FLOW as usize <= flow) & (flow <= GREATEST_FLOW as usize)
+    (LEAST_FLOW as usize..=GREATEST_FLOW as usize).contains(&flow)
 }
 
 // The answer where 25 and 26 refuse nothing.
 #[tactic(auto, unfolding(crate::specs::Roadworks::cycle_of, crate::specs::Roadworks::first_tried, crate::specs::Roadworks::phases_of, crate::specs::Roadworks::timing))]
-fn timed(stretch: usize, speed: usize, first: Approach, second: Approach) -> Portable
+fn timed(stretch: usize, speed: usize, first: Approach, second: Approach) -> Result<Timing, Refusal>
     requires listed { listed stretch speed ≡ true }
     requires first { in_range first ≡ true }
     requires second { in_range second ≡ true }
@@ -111,21 +99,19 @@ fn timed(stretch: usize, speed: usize, first: Approach, second: Approach) -> Por
     };
     let q = phases_of(asked);
     let sums = phase_lengths::sums_of(q);
-    if 10000 <= sums.ratios {
-        return refused(21);
-    }
-    let cycle = search(
-        asked,
-        q,
-        phase_lengths::first_length(false, sums.ratios, sums.lost),
-    );
-    if NO_CYCLE <= cycle {
-        return refused(22);
-    }
-    if !(enough_waiting(first, cycle) & enough_waiting(second, cycle)) {
-        return refused(27);
-    }
-    Portable::Timed(timing_at(stretches::times(stretch, speed), q, cycle))
+    ask(sums.ratios < 10000, 21, 0)?;
+    let Some(cycle) = search(asked, q, phase_lengths::first_length(false, sums)) else {
+        return Err(Refusal {
+            number: 22,
+            place: 0,
+        });
+    };
+    ask(
+        enough_waiting(first, cycle) & enough_waiting(second, cycle),
+        27,
+        0,
+    )?;
+    Ok(timing_at(stretches::times(stretch, speed), q, cycle))
 }
 
 // M: 3 s and the unrounded t, rounded up.
@@ -177,22 +163,21 @@ fn approach_phase(intergreen: u16, load: Load) -> Phase
     }
 }
 
-// The least length from the first on that works; 181 where none up to 180 does.
+// The least length from the first on that works, where one up to 180 does.
 #[tactic(auto, unfolding(crate::specs::Roadworks::cycle_from))]
-fn search(asked: Asked, q: Phases, first: u16) -> u16
+fn search(asked: Asked, q: Phases, first: u16) -> Option<u16>
     requires phases { q ≡ phases_of asked }
     requires right { Right q }
     requires short { first ≤ no_cycle }
-    ensures { result ≡ cycle_from asked first }
+    ensures some { IfSome result (λ t. (t < no_cycle) × (t ≡ cycle_from asked first)) }
+    ensures none { IfNone result (no_cycle ≤ cycle_from asked first) }
 {
-    let mut t = first;
-    while t < NO_CYCLE {
+    for t in first..NO_CYCLE {
         if works_at(asked, q, t) {
-            return t;
+            return Some(t);
         }
-        t += 1;
     }
-    t
+    None
 }
 
 // Whether a length works: at least the lost time, each green 1 or more, and every rule kept.

@@ -4,43 +4,37 @@
 // written. The plan file that is read stays as it is. What fails is told on standard error.
 #![tactic(auto)]
 
-use console::{JUNCTION_ROOM, PLAN_ROOM};
-use fields::Verdict;
+use console::{JUNCTION_ROOM, PLAN_ROOM, Program};
 
 fn main(rt: HostRuntime) {
-    let offset = console::number_argument(&rt, 3);
-    if !(!console::has_argument(&rt, 5)
-        & console::is_name(&rt, 1)
-        & console::is_name(&rt, 2)
-        & offset.valid
-        & console::is_name(&rt, 4))
-    {
-        console::usage(&rt, b"shift JUNCTION-FILE PLAN-FILE OFFSET [NEW-PLAN-FILE]");
+    let program = Program::new(
+        &rt,
+        "shift",
+        "JUNCTION-FILE PLAN-FILE OFFSET [NEW-PLAN-FILE]",
+    );
+    let Some(offset) = offset_argument(program) else {
+        program.usage();
         return;
-    }
+    };
     let mut junction = [0; JUNCTION_ROOM];
     let mut plan = [0; PLAN_ROOM];
-    shift_files(&rt, &mut junction, &mut plan, offset.value);
-}
-
-// The lent buffers take the two files.
-fn shift_files(rt: &HostRuntime, junction: &mut [u8], plan: &mut [u8], offset: usize) {
-    let got = console::read_two(rt, b"shift", junction, plan);
-    if got.read {
-        let m = got.first;
-        let n = got.second;
-        answer(rt, &junction[0..m], &mut plan[0..n], offset);
+    let Some((junction, plan)) = program.read_two(&mut junction, &mut plan) else {
+        return;
+    };
+    match offsets::shift(junction, plan, offset) {
+        Ok(()) => plan_text::tell_plan(program, 4, plan),
+        Err(refusal) => program.print_line(refusal),
     }
 }
 
-fn answer(rt: &HostRuntime, junction: &[u8], plan: &mut [u8], offset: usize) {
-    let verdict = offsets::shift(junction, plan, offset);
-    tell(rt, verdict, plan);
-}
-
-fn tell(rt: &HostRuntime, verdict: Verdict, plan: &[u8]) {
-    match verdict {
-        Verdict::Passed => plan_text::tell_plan(rt, b"shift", 4, plan),
-        Verdict::Refused { number, place } => plan_text::tell_refusal(rt, b"shift", number, place),
+// The offset, where the other arguments are right too.
+fn offset_argument(program: Program<'_>) -> Option<usize> {
+    if program.has_argument(5)
+        || !program.is_name(1)
+        || !program.is_name(2)
+        || !program.is_name(4)
+    {
+        return None;
     }
+    program.number(3)
 }

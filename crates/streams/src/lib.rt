@@ -5,7 +5,7 @@
 ghost use Rattle.std.specs.Prelude.{◌≡◌};
 ghost use Rattle.streams.specs.Kinds.{is_car, is_pedestrian_or_tram};
 
-#[derive(Clone, Copy)]
+#[derive(Clone, Copy, Debug, PartialEq, Eq)]
 pub struct CarFigures {
     // Amber in seconds.
     pub amber: u8,
@@ -20,13 +20,14 @@ pub struct CarFigures {
     // Gradient in percent plus 10.
     pub gradient: u8,
     // 1 good, 2 medium, 3 bad.
+    // Stays a number: `saturation_flow` of `flows` answers every value, and an enum would ask more of its callers.
     pub conditions: u8,
     // Shares of the traffic that turn, in percent.
     pub left: u8,
     pub right: u8,
 }
 
-#[derive(Clone, Copy)]
+#[derive(Clone, Copy, Debug, PartialEq, Eq)]
 pub struct TramFigures {
     // Starts from a stop before the line.
     pub stop: bool,
@@ -35,7 +36,7 @@ pub struct TramFigures {
     pub hourly: u8,
 }
 
-#[derive(Clone, Copy)]
+#[derive(Clone, Copy, Debug, PartialEq, Eq)]
 pub struct PedestrianFigures {
     // Clearing speed in decimetres a second.
     pub speed: u8,
@@ -49,14 +50,14 @@ pub struct PedestrianFigures {
     pub disturbed: bool,
 }
 
-#[derive(Clone, Copy)]
+#[derive(Clone, Copy, Debug, PartialEq, Eq)]
 pub struct CyclistFigures {
     // The time to reach a zone is counted.
     pub counted: bool,
 }
 
 // Pedestrians who cross two carriageways and the island between them in one go.
-#[derive(Clone, Copy)]
+#[derive(Clone, Copy, Debug, PartialEq, Eq)]
 pub struct IslandFigures {
     // The figures of any crossing.
     pub walk: PedestrianFigures,
@@ -69,7 +70,7 @@ pub struct IslandFigures {
 }
 
 // Each kind of stream has figures of its own.
-#[derive(Clone, Copy)]
+#[derive(Clone, Copy, Debug, PartialEq, Eq)]
 pub enum Kind {
     Car(CarFigures),
     Tram(TramFigures),
@@ -78,7 +79,7 @@ pub enum Kind {
     Island(IslandFigures),
 }
 
-#[derive(Clone, Copy)]
+#[derive(Clone, Copy, Debug, PartialEq, Eq)]
 pub struct Stream {
     pub phase: u8,
     pub kind: Kind,
@@ -88,26 +89,15 @@ pub struct Stream {
 pub fn is_car(s: Stream) -> bool
     ensures { result ≡ is_car s.kind }
 {
-    let kind = s.kind;
-    match kind {
-        Kind::Car(_) => true,
-        Kind::Tram(_) => false,
-        Kind::Pedestrian(_) => false,
-        Kind::Cyclist(_) => false,
-        Kind::Island(_) => false,
-    }
+    matches!(s.kind, Kind::Car(_))
 }
 
 // Whether a stream is of pedestrians, over an island too, or of trams.
 pub fn is_pedestrian_or_tram(s: Stream) -> bool
     ensures { result ≡ is_pedestrian_or_tram s.kind }
 {
-    let kind = s.kind;
-    match kind {
-        Kind::Car(_) => false,
-        Kind::Tram(_) => true,
-        Kind::Pedestrian(_) => true,
-        Kind::Cyclist(_) => false,
-        Kind::Island(_) => true,
-    }
+    matches!(
+        s.kind,
+        Kind::Tram(_) | Kind::Pedestrian(_) | Kind::Island(_)
+    )
 }

@@ -5,7 +5,7 @@ ghost use Rattle.std.specs.Prelude.{true, ◌≡◌, ◌<◌};
 ghost use Rattle.stretches.specs.Table.{listed as is_listed, entry as entry_of, table_times};
 
 // The table's t and L for a stretch and a speed, in tenths of a second.
-#[derive(Clone, Copy)]
+#[derive(Clone, Copy, Debug, PartialEq, Eq)]
 pub struct TableTimes {
     pub clearing: u16,
     pub lost: u16,
@@ -50,8 +50,8 @@ const TABLE: [[u16; 8]; 30] = [
 pub fn listed(stretch: usize, speed: usize) -> bool
     ensures { result ≡ is_listed stretch speed }
 {
-    let stretches = (10 <= stretch) & (stretch <= 300) & (stretch % 10 == 0);
-    let speeds = (25 <= speed) & (speed <= 40) & (speed % 5 == 0);
+    let stretches = (10..=300).contains(&stretch) & (stretch % 10 == 0);
+    let speeds = (25..=40).contains(&speed) & (speed % 5 == 0);
     stretches & speeds
 }
 

@@ -9,23 +9,16 @@ ghost use Rattle.tenths.specs.Tenths.{tenths_up, tenths_down};
 pub const TENTHS_END: u32 = 100000;
 
 // The least whole number that is not below ten times x in f64; TENTHS_END where every number below that is too small.
-#[tactic(auto, unfolding(crate::specs::Tenths::tenths_up))]
+#[tactic(auto, using(crate::specs::Literals::is_10), unfolding(crate::specs::Tenths::tenths_up))]
 pub fn tenths_up(x: f64) -> u32
     ensures { result ≡ tenths_up x }
 {
     let ten = x * 10.0;
-    let mut n: u32 = 0;
-    while n < TENTHS_END {
-        if ten <= n as f64 {
-            return n;
-        }
-        n += 1;
-    }
-    n
+    laws::first_in(0..TENTHS_END as usize, |n| ten <= n as u32 as f64) as u32
 }
 
 // That number, or the one before it where it is above ten times x.
-#[tactic(auto, unfolding(crate::specs::Tenths::tenths_down))]
+#[tactic(auto, using(crate::specs::Literals::is_10), unfolding(crate::specs::Tenths::tenths_down))]
 pub fn tenths_down(x: f64) -> u32
     ensures { result ≡ tenths_down x }
 {
@@ -33,8 +26,5 @@ pub fn tenths_down(x: f64) -> u32
     if n as f64 <= x * 10.0 {
         return n;
     }
-    if n == 0 {
-        return 0;
-    }
-    n - 1
+    n.saturating_sub(1)
 }

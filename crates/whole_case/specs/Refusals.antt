@@ -1,8 +1,7 @@
 -- A file, or a pair of files, for every number that documents 01 and 02 list, from 2 to 24, with its place; one table with one proof for the judge,
 -- and each refusal of the calculation and of the shift. 1 is of files longer than 16,384 bytes, which the first demand has for all of them.
 use Rattle.std.specs.Prelude.{ℕ, zero, suc, List, [], ◌∷◌, ◌++◌, map, ◌≡◌, refl, take}
-use Rattle.fields.specs.declared.Verdict.{Verdict}
-use Rattle.fields.specs.declared.Verdict.TheVariants.{Refused}
+use Rattle.fields.specs.Verdict.{Verdict, Refused}
 use Rattle.plan_judge.specs.Judgement.{judgement}
 use Rattle.cycle_search.specs.Planning.{first_tried}
 use Rattle.junction_file.specs.Reading.{reading}

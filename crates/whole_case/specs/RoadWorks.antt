@@ -1,6 +1,7 @@
 -- Portable signals, computed through the definitions: a stretch of 100 m at 30 km/h with its waiting lengths at and above the needed ones; the one
 -- place of the table where M by the rounded t would be another; and each refusal.
-use Rattle.std.specs.Prelude.{ℕ, ◌≡◌, refl}
+use Rattle.fields.specs.Verdict.{Refused}
+use Rattle.std.specs.Prelude.{ℕ, ◌≡◌, refl, Ok}
 use Rattle.laws.specs.Search.{first_of, first_below}
 use Rattle.stretches.specs.Table.{table, by_steps, listed, entry}
 use Rattle.phase_lengths.specs.Phases.{lost_time}
@@ -8,7 +9,6 @@ use Rattle.plan_rules.specs.Rules.{enough_capacity, off, zone_clear}
 use Rattle.roadworks.specs.Roadworks.{in_range, intergreen, phases_of, first_tried, rules_kept, works, cycle_from, cycle_of, enough_waiting, later_verdict, portable_verdict, timing, unless, portable}
 use Rattle.roadworks.specs.declared.Approach.{Approach}
 use Rattle.roadworks.specs.declared.Timing.{Timing}
-use Rattle.roadworks.specs.declared.Portable.TheVariants.{Refused, Timed}
 use Rattle.worked_values.specs.Computed.{to_flows, to_phases}
 
 approach : ℕ → ℕ → ℕ → Approach
@@ -29,7 +29,7 @@ unfolding approach signals to_flows to_phases first_of first_below table entry b
 to_signal = tt
 
 -- 400 × 99/600 is 66 m, and 380 × 99/600 is 62.7 m
-answered : portable 100 30 (approach 400 1800 67) (approach 380 1800 63) ≡ Timed (signals 144 328 99 0 33 51 30)
+answered : portable 100 30 (approach 400 1800 67) (approach 380 1800 63) ≡ Ok (signals 144 328 99 0 33 51 30)
 unfolding to_signal
 answered = refl
 
@@ -42,12 +42,12 @@ unfolding to_signal
 second_waiting = refl
 
 -- t is 23.04 s, in the table 23.0: M is 27
-unrounded : portable 140 25 (approach 200 1800 100) (approach 200 1800 100) ≡ Timed (signals 230 501 107 0 27 54 26)
+unrounded : portable 140 25 (approach 200 1800 100) (approach 200 1800 100) ≡ Ok (signals 230 501 107 0 27 54 26)
 unfolding to_signal
 unrounded = refl
 
 -- t is 9.0 s and M 12; of 36 s each has 18, and none is left over
-none_left : portable 80 40 (approach 300 1800 30) (approach 300 1800 30) ≡ Timed (signals 90 220 58 0 17 29 17)
+none_left : portable 80 40 (approach 300 1800 30) (approach 300 1800 30) ≡ Ok (signals 90 220 58 0 17 29 17)
 unfolding to_signal
 none_left = refl
 
@@ -64,7 +64,7 @@ halves : portable 100 30 (approach 900 1800 1000) (approach 900 1800 1000) ≡ R
 unfolding to_signal
 halves = refl
 
-longest : portable 300 25 (approach 140 1800 100) (approach 139 1800 100) ≡ Timed (signals 461 962 180 0 41 91 39)
+longest : portable 300 25 (approach 140 1800 100) (approach 139 1800 100) ≡ Ok (signals 461 962 180 0 41 91 39)
 unfolding to_signal
 longest = refl
 

@@ -6,8 +6,7 @@ use Rattle.laws.specs.Filled.{filled}
 use Rattle.laws.specs.Largest.{largest_of}
 use Rattle.laws.specs.Search.{first_of, first_below}
 use Rattle.fields.specs.Bytes.{byte_at, number_at, field_end, fits, body_of, byte_in, number_in}
-use Rattle.fields.specs.Verdict.{first_failing, ask_each}
-use Rattle.fields.specs.declared.Verdict.TheVariants.{Passed, Refused}
+use Rattle.fields.specs.Verdict.{first_failing, ask_each, Passed, Refused}
 use Rattle.counts.specs.Newest.{usable, rank, rank_flow}
 use Rattle.junction.specs.Layout.{design_day, planned_period, heading_in_range, radius_in_range, shares_in_range, car_in_range, car_of, tram_in_range, tram_of}
 use Rattle.junction.specs.Layout.{pedestrian_in_range, walk_of, pedestrian_of, cyclist_in_range, cyclist_of, island_in_range, island_of, stream_length_right, stream_in_range, kind_of, stream_of, zone_in_range, zone_of, count_in_range, count_of}
@@ -29,7 +28,6 @@ use Rattle.cycle_search.specs.Planning.{ratios, first_tried, phase_green, plan_a
 use Rattle.offsets.specs.Shifting.{moved, start_place, with_number, shifted, file_verdict, shift_verdict, shifted_plan}
 use Rattle.planner.specs.WorkingOut.{calculation, junction_verdict, junction_worked, junction_buffer, worked, buffer}
 use Rattle.delays.specs.Answer.{car_asked, stream_figures, told, unless, delay_verdict, answer, refusal, refused_at, told_outcome, told_value, told_letter}
-use Rattle.delays.specs.declared.Delayed.TheVariants as delayed
 use Rattle.worked_values.specs.Computed.{to_times, to_flows, to_phases, to_delays}
 use Rattle.whole_case.specs.Fields.{heading_for, heading, car, pedestrian, island, stop_tram, zone_by, zone, count_for, count, cycle11, green12}
 
@@ -127,15 +125,15 @@ delay_letter : told_letter (answer WC WP 1) ≡ 65
 unfolding to_delay
 delay_letter = refl
 
-delay_of_no_car : answer WC WP 2 ≡ delayed.Refused 9 2
+delay_of_no_car : answer WC WP 2 ≡ Refused 9 2
 unfolding to_delay
 delay_of_no_car = refl
 
-delay_of_no_stream : answer WC WP 257 ≡ delayed.Refused 9 257
+delay_of_no_stream : answer WC WP 257 ≡ Refused 9 257
 unfolding to_delay
 delay_of_no_stream = refl
 
-delay_too_early : answer WC (plan_from 39) 257 ≡ delayed.Refused 17 1
+delay_too_early : answer WC (plan_from 39) 257 ≡ Refused 17 1
 unfolding to_delay
 delay_too_early = refl
 

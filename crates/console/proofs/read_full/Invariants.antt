@@ -3,7 +3,7 @@ use Rattle.std.proofs.Common.{length, ◌-◌, ◌≤◌}
 use Rattle.console.proofs.read_full.Given as goal
 
 abbrev pub invariant-loop-size : goal.invariant-loop-size
-invariant-loop-size g l = l.size ≤ length l.file
+invariant-loop-size g l = l.size ≤ length l.room
 
 abbrev pub decreases-loop-size : goal.decreases-loop-size
-decreases-loop-size g l = length l.initial.file - l.size
+decreases-loop-size g l = length l.initial.room - l.size

@@ -15,29 +15,29 @@ use Rattle.cycle_search.proofs.plan_at.Goals.{After-slot_green-arg-1, After-stru
 use Rattle.cycle_search.proofs.plan_at.Goals as goal
 
 -- the stream's phase has one of the six places
-place : (c : After-struct_known-1) → Between 1 6 (get_or c.args.j.streams c.loop-i.i no_stream).phase
+place : (c : After-struct_known-1) → Between 1 6 (get_or c.args.j.now.streams c.loop-i.i no_stream).phase
 place c =
     let s = c in
     let i = c.loop-i.i in
     let low = c.loop-i-test.true in
-    (stream_phases s.args.j s.requires.taken).each i low
+    (stream_phases s.args.j.now s.requires.taken).each i low
 
 -- what stands there is its start and green
 slot : (c : After-slot_green-arg-1)
     → let a = c.args in
     let i = c.loop-i.i in
-    get_or a.slots.of ((get_or a.j.streams i no_stream).phase - 1) no_slot
-    ≡ slot_at (phases_at a.j a.t) (sharing (phases_at a.j a.t) a.t) ((stream_numbered a.j (i + 1)).phase - 1)
+    get_or a.slots.of ((get_or a.j.now.streams i no_stream).phase - 1) no_slot
+    ≡ slot_at (phases_at a.j.now a.t) (sharing (phases_at a.j.now a.t) a.t) ((stream_numbered a.j.now (i + 1)).phase - 1)
 slot c =
     let s = c in
     let i = c.loop-i.i in
     let low = c.loop-i-test.true in
-    let there = stream_place_lem s.args.j s.requires.taken i low in
-    let range = rw there at ((stream_phases s.args.j s.requires.taken).each i low) in
+    let there = stream_place_lem s.args.j.now s.requires.taken i low in
+    let range = rw there at ((stream_phases s.args.j.now s.requires.taken).each i low) in
     rw (s.requires.slots, s.requires.phases, there) (slot_place _ _ _ (omega (arith, range)))
 
 pub loop-i-init : goal.loop-i-init
-loop-i-init c = (omega arith, simp (c.no_green.ensures, filled_none))
+loop-i-init c = simp (c.no_green.ensures, filled_none)
 
 pub overflow_sub-stream : goal.overflow_sub-stream
 overflow_sub-stream c = (place (goal.at.overflow_sub-stream c).After-struct_known-1).0
@@ -49,8 +49,8 @@ pub slot_green-requires : goal.slot_green-requires
 slot_green-requires c =
     let pre = c.requires in
     rw (slot (goal.at.slot_green-requires c).After-slot_green-arg-1)
-    (small c.args.j pre.taken c.args.t (rw pre.phases at pre.green) pre.short (c.loop-i.i + 1) (omega arith))
+    (small c.args.j.now pre.taken c.args.t (rw pre.phases at pre.green) pre.short (c.loop-i.i + 1) (omega arith))
 
 pub loop-i-preserved : goal.loop-i-preserved
 unfolding phase_green
-loop-i-preserved c = (omega arith, simp (c.slot_green.ensures, slot (goal.at.loop-i-preserved c).After-slot_green-arg-1, c.loop-i.invariant.1, filled_next))
+loop-i-preserved c = simp (c.slot_green.ensures, slot (goal.at.loop-i-preserved c).After-slot_green-arg-1, c.loop-i.invariant, filled_next)

@@ -15,29 +15,29 @@ use Rattle.cycle_search.proofs.search.Goals as goal
 
 -- whether the length gives greens, by its own phases
 gives : (c : After-gives_greens)
-    → c.gives_greens.result ≡ gives_greens (phases_at c.args.j c.search.t) c.search.t
+    → c.gives_greens.result ≡ gives_greens (phases_at c.args.tables.now.junction c.search.t) c.search.t
 gives c = c.gives_greens.ensures ∙ ap (λ q. gives_greens q c.search.t) c.at_cycle-q.ensures
 
 need_here : (c : After-need_met)
-    → c.need_met.result ≡ need_met c.args.j c.plan_at-p.result (c.loop-n.n + 1)
-need_here c = c.need_met.ensures ∙ need_place _ c.loop-n.invariant.2.taken _ c.loop-n.n c.loop-n-test.true
+    → c.need_met.result ≡ need_met c.args.tables.now.junction c.plan_at-p.result (c.loop-n.n + 1)
+need_here c = c.need_met.ensures ∙ need_place _ c.loop-n.invariant.1.taken _ c.loop-n.n c.loop-n-test.true
 
 capacity_here : (c : After-capacity_met)
-    → c.capacity_met.result ≡ capacity_met c.args.j c.plan_at-p.result (c.loop-c.c + 1)
+    → c.capacity_met.result ≡ capacity_met c.args.tables.now.junction c.plan_at-p.result (c.loop-c.c + 1)
 capacity_here c =
-    let given = c.loop-c.invariant.2 in
+    let given = c.loop-c.invariant.1 in
     c.capacity_met.ensures ∙ capacity_place _ given.taken _ c.loop-c.c given.loads c.loop-c-test.true
 
 -- the streams of the conflict of a turn
-conflict : (c : In-loop-z) → Ends c.args.j (get_or c.args.conflicts.of c.loop-z.z no_conflict)
+conflict : (c : In-loop-z) → Ends c.args.tables.now.junction (get_or c.args.tables.now.conflicts.of c.loop-z.z no_conflict)
 conflict c =
-    let given = c.loop-z.invariant.2 in
+    let given = c.loop-z.invariant.1 in
     conflict_ends _ given.taken c.plan_at-p.result c.loop-z.z given.conflicts c.loop-z-test.true
 
 zone_here : (c : After-zone_clear)
-    → c.zone_clear.result ≡ zone_met c.args.j c.plan_at-p.result (c.loop-z.z + 1)
+    → c.zone_clear.result ≡ zone_met c.args.tables.now.junction c.plan_at-p.result (c.loop-z.z + 1)
 zone_here c =
-    let given = c.loop-z.invariant.2 in
+    let given = c.loop-z.invariant.1 in
     c.zone_clear.ensures ∙ zone_met_lem _ given.taken _ c.loop-z.z given.conflicts c.loop-z-test.true
 
 pub search-preserved-then-not-gives_greens : goal.search-preserved-then-not-gives_greens
@@ -48,32 +48,30 @@ search-preserved-then-not-gives_greens c =
 pub search-preserved-then-not-need_met : goal.search-preserved-then-not-need_met
 search-preserved-then-not-need_met c =
     let l = c.loop-n in
-    (l.invariant.2, need_broken _ _ _ _ _ l.invariant.3 (l.n + 1) (omega arith) (not-true _ (ap not (sym (need_here (goal.at.search-preserved-then-not-need_met c).After-need_met) ∙ c.if-not-need_met.true))))
+    (l.invariant.1, need_broken _ _ _ _ _ l.invariant.2 (l.n + 1) (omega arith) (not-true _ (ap not (sym (need_here (goal.at.search-preserved-then-not-need_met c).After-need_met) ∙ c.if-not-need_met.true))))
 
 pub loop-n-preserved : goal.loop-n-preserved
 loop-n-preserved c =
     let l = c.loop-n in (
       l.invariant.0,
-      omega arith,
+      l.invariant.1,
       l.invariant.2,
-      l.invariant.3,
-      met_next _ l.n l.invariant.4 (not-false _ (ap not (sym (need_here (goal.at.loop-n-preserved c).After-need_met) ∙ c.if-not-need_met.false))),
+      met_next _ l.n l.invariant.3 (not-false _ (ap not (sym (need_here (goal.at.loop-n-preserved c).After-need_met) ∙ c.if-not-need_met.false))),
     )
 
 pub search-preserved-then-not-capacity_met : goal.search-preserved-then-not-capacity_met
 search-preserved-then-not-capacity_met c =
     let l = c.loop-c in
-    (l.invariant.2, capacity_broken _ _ _ _ _ l.invariant.3 (l.c + 1) (omega arith) (not-true _ (ap not (sym (capacity_here (goal.at.search-preserved-then-not-capacity_met c).After-capacity_met) ∙ c.if-not-capacity_met.true))))
+    (l.invariant.1, capacity_broken _ _ _ _ _ l.invariant.2 (l.c + 1) (omega arith) (not-true _ (ap not (sym (capacity_here (goal.at.search-preserved-then-not-capacity_met c).After-capacity_met) ∙ c.if-not-capacity_met.true))))
 
 pub loop-c-preserved : goal.loop-c-preserved
 loop-c-preserved c =
     let l = c.loop-c in (
       l.invariant.0,
-      omega arith,
+      l.invariant.1,
       l.invariant.2,
       l.invariant.3,
-      l.invariant.4,
-      met_next _ l.c l.invariant.5 (not-false _ (ap not (sym (capacity_here (goal.at.loop-c-preserved c).After-capacity_met) ∙ c.if-not-capacity_met.false))),
+      met_next _ l.c l.invariant.4 (not-false _ (ap not (sym (capacity_here (goal.at.loop-c-preserved c).After-capacity_met) ∙ c.if-not-capacity_met.false))),
     )
 
 pub overflow_sub-a : goal.overflow_sub-a
@@ -84,27 +82,26 @@ overflow_sub-b c = (conflict (goal.at.overflow_sub-b c).In-loop-z).b.0
 
 pub bounds-p-a : goal.bounds-p-a
 bounds-p-a c =
-    omega (arith, c.loop-z.invariant.2.taken.fields.few_streams, (conflict (goal.at.bounds-p-a c).In-loop-z).a)
+    omega (arith, c.loop-z.invariant.1.taken.fields.few_streams, (conflict (goal.at.bounds-p-a c).In-loop-z).a)
 
 pub bounds-p-b : goal.bounds-p-b
 bounds-p-b c =
-    omega (arith, c.loop-z.invariant.2.taken.fields.few_streams, (conflict (goal.at.bounds-p-b c).In-loop-z).b)
+    omega (arith, c.loop-z.invariant.1.taken.fields.few_streams, (conflict (goal.at.bounds-p-b c).In-loop-z).b)
 
 pub search-preserved : goal.search-preserved
 search-preserved c =
     let l = c.loop-z in
-    (l.invariant.2, zone_broken _ _ _ _ _ l.invariant.3 (l.z + 1) (omega arith) (not-true _ (ap not (sym (zone_here (goal.at.search-preserved c).After-zone_clear) ∙ c.if-not-zone_clear.true))))
+    (l.invariant.1, zone_broken _ _ _ _ _ l.invariant.2 (l.z + 1) (omega arith) (not-true _ (ap not (sym (zone_here (goal.at.search-preserved c).After-zone_clear) ∙ c.if-not-zone_clear.true))))
 
 pub loop-z-preserved : goal.loop-z-preserved
 loop-z-preserved c =
     let l = c.loop-z in (
       l.invariant.0,
-      omega arith,
+      l.invariant.1,
       l.invariant.2,
       l.invariant.3,
       l.invariant.4,
-      l.invariant.5,
-      met_next _ l.z l.invariant.6 (not-false _ (ap not (sym (zone_here (goal.at.loop-z-preserved c).After-zone_clear) ∙ c.if-not-zone_clear.false))),
+      met_next _ l.z l.invariant.5 (not-false _ (ap not (sym (zone_here (goal.at.loop-z-preserved c).After-zone_clear) ∙ c.if-not-zone_clear.false))),
     )
 
 pub returns-then-t-ge-NO_CYCLE : goal.returns-then-t-ge-NO_CYCLE
@@ -115,7 +112,7 @@ returns-then-t-ge-NO_CYCLE c =
 pub returns-after-loop-z : goal.returns-after-loop-z
 returns-after-loop-z c =
     let i = c.loop-z.invariant in
-    trying_found _ _ _ _ _ i.3 i.4 i.5 (subst (Met _) (le_antisymm i.1 c.loop-z-test.false) i.6)
+    trying_found _ _ _ _ _ i.2 i.3 i.4 (subst (Met _) (le_antisymm c.loop-z.auto.z-end c.loop-z-test.false) i.5)
 
 pub gives_greens-requires-clause-count : goal.gives_greens-requires-clause-count
 unfolding phases_at

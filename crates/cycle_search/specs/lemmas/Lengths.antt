@@ -1,14 +1,12 @@
 -- What a length gives: starts and greens within it where every phase gets a green, and which of its rules makes it fail.
-use Rattle.std.specs.Prelude.{ℕ, ◌-◌, ◌≤◌, ◌<◌, true, false, ◌&&◌, not, ◌≡◌, refl, leb, eqb}
+use Rattle.std.specs.Prelude.{ℕ, ◌-◌, ◌≤◌, ◌<◌, true, false, ◌&&◌, not, ◌≡◌, refl, leb, eqb, Ok, Err}
 use Rattle.std.proofs.Common.{arith, sym, ◌∙◌, ap}
 use Rattle.std.proofs.Math.Bool.{true≢false}
 use borrow.Author.Tests.{leb-true, leb-false, lt-ltb, le-ltb}
 use Rattle.laws.specs.Ranges.{Between}
 use Rattle.laws.specs.Tests.{by_test, both_left, both_right}
 use Rattle.limits.specs.Limits.{most_seconds}
-use Rattle.fields.specs.Verdict.{is_refused, not_refused, each_passed}
-use Rattle.fields.specs.declared.Verdict.{Verdict}
-use Rattle.fields.specs.declared.Verdict.TheVariants.{Passed, Refused}
+use Rattle.fields.specs.Verdict.{is_refused, not_refused, each_passed, Verdict, Passed}
 use Rattle.junction.specs.declared.Junction.{Junction}
 use Rattle.junction_places.specs.Places.{stream_numbered}
 use Rattle.junction_file.specs.Taken.{Taken}
@@ -47,8 +45,8 @@ module _ (j : Junction) (taken : Taken j) (t : ℕ) where
       slot_small (phases_at j t) (phases_right_lem j taken t) t p short ((stream_numbered j n).phase - 1) (omega arith)
 
 rule_works : (v : Verdict) → is_works (rule_outcome v) ≡ not (is_refused v)
-rule_works Passed = refl
-rule_works (Refused number place) = by_test (eqb number 15) (λ e. rw e) (λ e. by_test (eqb number 16) (λ f. rw (e, f)) (λ f. rw (e, f)))
+rule_works (Ok u) = refl
+rule_works (Err r) = by_test (eqb r.number 15) (λ e. rw e) (λ e. by_test (eqb r.number 16) (λ f. rw (e, f)) (λ f. rw (e, f)))
 
 module _ (j : Junction) (t : ℕ) where
   -- a length works exactly where it gives every phase a green and no rule refuses its plan

@@ -7,15 +7,14 @@ use Rattle.std.proofs.Math.Path.{sym, ap}
 use Rattle.laws.specs.Ranges.{Between}
 use Rattle.laws.specs.Tests.{by_test}
 use Rattle.limits.specs.Limits.{no_cycle, most_seconds}
-use Rattle.fields.specs.Verdict.{is_refused}
-use Rattle.fields.specs.declared.Verdict.TheVariants.{Passed}
+use Rattle.fields.specs.Verdict.{is_refused, Passed}
 use Rattle.junction_file.specs.Reading.{reading}
 use Rattle.plan_file.specs.Writing.{plan_size, has_room}
 use Rattle.cycle_search.specs.Planning.{ratios, first_tried, cycle, found}
 use Rattle.planner.specs.lemmas.Cases.{first_tried_range, found_cycle, cycle_works}
 use Rattle.planner.proofs.lemmas.Cases.{worked_passed, file_taken}
 use Rattle.planner.specs.Demand2.{cycle_least, tried_bounds}
-use Rattle.planner.specs.declared.Worked.{Worked}
+use Rattle.planner.specs.WorkingOut.{Worked}
 use Rattle.planner.specs.WorkingOut.{calculation, junction_verdict, worked}
 use Rattle.demands.specs.Files.{Accepted, Result}
 use Rattle.demands.proofs.lemmas.Works.{works_file}

@@ -3,9 +3,7 @@ use Rattle.std.specs.Prelude.{ℕ, ◌≤◌, List, [], ◌∷◌, ◌⊎◌, �
 use Rattle.std.proofs.Common.{arith, inl, inr, ◌∙◌}
 use Rattle.std.proofs.Math.Path.{refl, sym}
 use Rattle.fields.specs.Bytes.{number_at}
-use Rattle.fields.specs.Verdict.{ask, first_refusal}
-use Rattle.fields.specs.declared.Verdict.{Verdict}
-use Rattle.fields.specs.declared.Verdict.TheVariants.{Passed}
+use Rattle.fields.specs.Verdict.{ask, first_refusal, Verdict, Passed}
 use Rattle.junction_questions.specs.Questions.{count_refers}
 use Rattle.junction_places.specs.Places.{exists}
 use Rattle.junction_file.specs.Reading.{reading}

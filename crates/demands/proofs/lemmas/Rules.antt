@@ -8,9 +8,7 @@ use Rattle.std.proofs.Math.Path.{sym, ap, subst}
 use borrow.Author.Tests.{ltb-false, le-ltb}
 use Rattle.laws.specs.Tests.{by_test}
 use Rattle.fields.specs.Bytes.{number_at}
-use Rattle.fields.specs.Verdict.{place_of, is_refused, ask, first_refusal, ask_each}
-use Rattle.fields.specs.declared.Verdict.{Verdict}
-use Rattle.fields.specs.declared.Verdict.TheVariants.{Passed, Refused}
+use Rattle.fields.specs.Verdict.{place_of, is_refused, ask, first_refusal, ask_each, Verdict, Passed, Refused}
 use Rattle.junction_file.specs.Reading.{reading}
 use Rattle.plan_file.specs.Plans.{plan_verdict, plan_of}
 use Rattle.plan_rules.specs.Rules.{need_met, capacity_met, zone_met, rules_verdict}

@@ -7,8 +7,7 @@ use borrow.Author.Tests.{leb-false, ltb-true}
 use Rattle.laws.specs.Tests.{by_test}
 use Rattle.limits.specs.Limits.{no_cycle, most_bytes}
 use Rattle.fields.specs.Bytes.{byte_at, field_end, fits, body_of}
-use Rattle.fields.specs.Verdict.{is_refused}
-use Rattle.fields.specs.declared.Verdict.TheVariants.{Passed}
+use Rattle.fields.specs.Verdict.{is_refused, Passed}
 use Rattle.junction.specs.declared.Junction.{Junction}
 use Rattle.junction_places.specs.Blank.{blank}
 use Rattle.junction_questions.specs.Questions.{in_order, length_right, in_range, within_limit, refers, body_verdict, named_by, field_verdict}

@@ -3,7 +3,7 @@ use Rattle.std.specs.Prelude.{ℕ, true, List, ◌↔◌, ◌≡◌}
 use Rattle.std.proofs.Common.{sym, ◌∙◌}
 use Rattle.laws.specs.Ranges.{Between}
 use Rattle.limits.specs.Limits.{most_seconds}
-use Rattle.fields.specs.declared.Verdict.TheVariants.{Passed}
+use Rattle.fields.specs.Verdict.{Passed}
 use Rattle.junction_file.specs.Reading.{reading}
 use Rattle.junction_file.proofs.TakenFile.{taken}
 use Rattle.junction_phases.specs.JunctionPhases.{phases_at}

@@ -6,8 +6,7 @@ use Rattle.laws.proofs.Search.{first_same}
 use Rattle.laws.specs.Tests.{by_test}
 use Rattle.limits.specs.Limits.{most_bytes}
 use Rattle.fields.specs.Bytes.{byte_at, number_at, field_end, body_of}
-use Rattle.fields.specs.Verdict.{is_refused, first_refused, first_passed, first_failing, ask_each}
-use Rattle.fields.specs.declared.Verdict.TheVariants.{Passed}
+use Rattle.fields.specs.Verdict.{is_refused, first_refused, first_passed, first_failing, ask_each, Passed}
 use Rattle.junction.specs.declared.Junction.{Junction}
 use Rattle.junction_places.specs.Blank.{blank}
 use Rattle.junction_questions.specs.Questions.{body_verdict, field_verdict, lacks_count, first_lacking, counts_verdict, whole_verdict}

@@ -7,8 +7,7 @@ use Rattle.std.proofs.lemmas.Bool.{false≢true}
 use Rattle.std.proofs.Math.Path.{sym, ap}
 use Rattle.laws.specs.Tests.{by_test, both}
 use Rattle.limits.specs.Limits.{no_cycle}
-use Rattle.fields.specs.Verdict.{number_of, is_refused, ask}
-use Rattle.fields.specs.declared.Verdict.TheVariants.{Passed, Refused}
+use Rattle.fields.specs.Verdict.{number_of, is_refused, ask, Passed, Refused}
 use Rattle.junction_file.specs.Reading.{reading}
 use Rattle.junction_file.proofs.TakenFile.{taken}
 use Rattle.plan_file.specs.Writing.{plan_size, has_room, has_room_lem, written}

@@ -1,11 +1,9 @@
 -- The answer of each entry, and of each function of the C library, is the refusal of the first of its questions that fails, or no refusal; and a
 -- refusal leaves the lent buffer as it is.
-use Rattle.std.specs.Prelude.{ℕ, ◌≤◌, true, List, ◌≡◌, refl, length}
+use Rattle.std.specs.Prelude.{ℕ, ◌≤◌, true, List, ◌≡◌, refl, length, Ok, Err}
 use Rattle.std.proofs.Common.{arith, sym, ◌∙◌, ap, subst}
 use Rattle.laws.specs.Tests.{by_test}
-use Rattle.fields.specs.Verdict.{number_of, place_of, is_refused}
-use Rattle.fields.specs.declared.Verdict.{Verdict}
-use Rattle.fields.specs.declared.Verdict.TheVariants.{Passed, Refused}
+use Rattle.fields.specs.Verdict.{number_of, place_of, is_refused, Verdict}
 use Rattle.counts.specs.declared.Wanted.{Wanted}
 use Rattle.junction_file.specs.Reading.{reading}
 use Rattle.planner.proofs.lemmas.Cases.{file_taken, lent_refused, lent_taken, buffer_refused, worked_verdict}
@@ -47,8 +45,8 @@ kept junction lent e =
     sym (buffer_refused j lent is ∙ lent_taken junction lent r))
 
 pub numbered_refused : (v : Verdict) → 1 ≤ number_of v → is_refused v ≡ true
-numbered_refused Passed some = absurd (omega arith)
-numbered_refused (Refused number place) some = refl
+numbered_refused (Ok u) some = absurd (omega arith)
+numbered_refused (Err r) some = refl
 
 pub c_portable_holds : (stretch speed : ℕ) (a b : Approach)
     → AnswersBy (portable_answer stretch speed a b).refusal (portable_answer stretch speed a b).place (portable_asked stretch speed a b) PortablePlace

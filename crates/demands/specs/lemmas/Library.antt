@@ -1,10 +1,8 @@
 -- The C library's answers are the answers to their questions too, and a refusal's number is never 0.
-use Rattle.std.specs.Prelude.{ℕ, zero, suc, ◌≤◌, ◌&&◌, List, ◌++◌, ◌≡◌, leb, ltb}
+use Rattle.std.specs.Prelude.{ℕ, zero, suc, ◌≤◌, ◌&&◌, List, ◌++◌, ◌≡◌, leb, ltb, Ok, Err}
 use Rattle.std.proofs.Common.{arith, ◌∙◌}
 use Rattle.std.proofs.Math.Path.{refl, sym}
-use Rattle.fields.specs.Verdict.{number_of, place_of, ask, first_refusal}
-use Rattle.fields.specs.declared.Verdict.{Verdict}
-use Rattle.fields.specs.declared.Verdict.TheVariants.{Passed, Refused}
+use Rattle.fields.specs.Verdict.{number_of, place_of, ask, first_refusal, Verdict, Passed, Refused}
 use Rattle.counts.specs.declared.Wanted.{Wanted}
 use Rattle.junction_file.specs.Reading.{reading}
 use Rattle.limits.specs.Limits.{no_cycle}
@@ -26,9 +24,12 @@ use Rattle.demands.specs.lemmas.Told.{Told, ask_told}
 
 -- where a refusal's number is not 0, the number and the place of a verdict say the verdict
 pub said_is : (v : Verdict) → Told (λ number place. 1 ≤ number) v → said (number_of v) (place_of v) ≡ v
-said_is Passed t = refl
-said_is (Refused zero place) t = absurd (omega arith)
-said_is (Refused (suc number) place) t = refl
+said_is (Ok u) t = refl
+said_is (Err r) t = said_some r.number r.place t
+  where
+    said_some : (number place : ℕ) → 1 ≤ number → said number place ≡ Refused number place
+    said_some zero place t = absurd (omega arith)
+    said_some (suc number) place t = refl
 
 pub plan_some : {size : ℕ} (n p : ℕ) → PlanPlace size n p → 1 ≤ n
 plan_some n p (fit l) = omega arith

@@ -3,16 +3,14 @@
 use Prim.Native.Nat.{ℕ, ◌+◌, ◌-◌, ◌≤◌, ◌<◌, zero-le}
 use native.Mathlib.Omega.{arith}
 use Rattle.std.proofs.Math.Bool.{Bool, true, false, not, true≢false}
-use Rattle.std.specs.Prelude.{List, ◌↔◌, ◌≡◌, refl, leb}
+use Rattle.std.specs.Prelude.{List, ◌↔◌, ◌≡◌, refl, leb, Ok, Err}
 use Rattle.std.proofs.Math.Path.{sym, ap, subst}
 use Rattle.std.proofs.Common.{◌∙◌}
 use borrow.Author.Tests.{lt-leb, leb-true, leb-false, not-true, not-false}
 use Rattle.laws.proofs.Search.{first_range, first_passes, first_fails}
 use Rattle.laws.specs.Search.{first_below}
 use Rattle.laws.specs.Tests.{by_test}
-use Rattle.fields.specs.Verdict.{number_of, place_of, is_refused, first_refusal, first_failing, ask_each, each_passed}
-use Rattle.fields.specs.declared.Verdict.{Verdict}
-use Rattle.fields.specs.declared.Verdict.TheVariants.{Passed, Refused}
+use Rattle.fields.specs.Verdict.{number_of, place_of, is_refused, first_refusal, first_failing, ask_each, each_passed, Verdict, Passed, Refused}
 use Rattle.junction_file.specs.Reading.{reading}
 use Rattle.plan_file.specs.Plans.{plan_of}
 use Rattle.plan_rules.specs.Rules.{zone_met}
@@ -72,8 +70,8 @@ module _ (holds : ℕ → Bool) (number n : ℕ) (later : Verdict) where
       )
 
 pub first_later : (v later : Verdict) (m k : ℕ) → (v ≡ Refused m k → ⊥) → (first_refusal v later ≡ Refused m k) ↔ ((v ≡ Passed) × (later ≡ Refused m k))
-first_later Passed later m k never = (λ e. (refl, e), λ h. h.1)
-first_later (Refused number place) later m k never = (λ e. absurd (never e), λ h. absurd (true≢false (ap is_refused h.0)))
+first_later (Ok u) later m k never = (λ e. (refl, e), λ h. h.1)
+first_later (Err r) later m k never = (λ e. absurd (never e), λ h. absurd (true≢false (ap is_refused h.0)))
 
 pub plan_other : {size m k : ℕ} → 15 ≤ m → PlanPlace size m k → ⊥
 plan_other later (fit low) = omega arith

@@ -1,21 +1,19 @@
 -- Each refusal has a number that document 01 lists for its entry, and a place that the number can have.
 use Prim.Native.Nat.{ℕ, zero, suc, ◌+◌, ◌<◌}
 use Rattle.std.proofs.Common.{arith}
-use Rattle.std.specs.Prelude.{Bool, true, false, List, ◌≡◌, refl, leb, ltb}
+use Rattle.std.specs.Prelude.{Bool, true, false, List, ◌≡◌, refl, leb, ltb, Ok, Err}
 use Rattle.std.proofs.Math.ListN.{length}
 use borrow.Author.Tests.{leb-false, ltb-true}
 use Rattle.laws.specs.Ranges.{Between}
 use Rattle.fields.specs.Bytes.{field_end, fits}
-use Rattle.fields.specs.Verdict.{ask, first_refusal, first_failing, ask_each}
-use Rattle.fields.specs.declared.Verdict.{Verdict}
-use Rattle.fields.specs.declared.Verdict.TheVariants.{Passed, Refused}
+use Rattle.fields.specs.Verdict.{ask, first_refusal, first_failing, ask_each, Verdict, Passed}
 use Rattle.plan_file.specs.Plans.{due_verdict, cycle_verdict, green_verdict, greens_from, plan_verdict}
 use Rattle.demands.specs.Places.{PlanPlace, fit, expected, range}
 
 -- a refusal, if there is one, has such a number and place
 abbrev pub Told : (ℕ → ℕ → Type 0) → Verdict → Type 0
-Told R Passed = Unit {0}
-Told R (Refused number place) = R number place
+Told R (Ok u) = Unit {0}
+Told R (Err r) = R r.number r.place
 
 module _ (R : ℕ → ℕ → Type 0) where
   pub ask_told : (b : Bool) (number place : ℕ) (later : Verdict) → (b ≡ false → R number place) → (b ≡ true → Told R later)
@@ -24,8 +22,8 @@ module _ (R : ℕ → ℕ → Type 0) where
   ask_told false number place later fails passes = fails refl
 
   pub first_told : (v later : Verdict) → Told R v → (v ≡ Passed → Told R later) → Told R (first_refusal v later)
-  first_told Passed later here there = there refl
-  first_told (Refused number place) later here there = here
+  first_told (Ok u) later here there = there refl
+  first_told (Err r) later here there = here
 
   pub each_told : (holds : ℕ → Bool) (number n : ℕ) (later : Verdict) → ((k : ℕ) → Between 1 n k → R number k) → Told R later
       → Told R (ask_each holds number n later)
@@ -35,8 +33,8 @@ module _ (R : ℕ → ℕ → Type 0) where
       (λ e. let low = leb-false n (first_failing holds n) e in here (first_failing holds n + 1) (omega arith)) (λ e. there)
 
 pub told_more : (R S : ℕ → ℕ → Type 0) → ((n p : ℕ) → R n p → S n p) → (v : Verdict) → Told R v → Told S v
-told_more R S more Passed t = tt
-told_more R S more (Refused number place) t = more number place t
+told_more R S more (Ok u) t = tt
+told_more R S more (Err r) t = more r.number r.place t
 
 module _ (s : List ℕ) where
   due_told : (at : ℕ) (expects ranged : Bool) → Told (PlanPlace (length s)) (due_verdict s at expects ranged)

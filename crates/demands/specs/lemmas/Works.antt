@@ -4,7 +4,7 @@ use Rattle.std.proofs.Common.{zero-le, arith, ltb-true, ltb-false, leb-true, leb
 use Rattle.laws.proofs.Search.{first_passes, first_fails}
 use Rattle.laws.specs.Search.{first_below}
 use Rattle.laws.specs.Tests.{by_test, both, both_left, both_right}
-use Rattle.fields.specs.declared.Verdict.TheVariants.{Passed}
+use Rattle.fields.specs.Verdict.{Passed}
 use Rattle.junction_file.specs.Reading.{reading}
 use Rattle.phase_lengths.specs.Phases.{lost_time}
 use Rattle.phase_lengths.specs.declared.Phases.{Phases}

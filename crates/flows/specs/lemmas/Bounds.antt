@@ -9,7 +9,8 @@ use Rattle.laws.specs.Ranges.{every_at}
 use Rattle.laws.specs.Tests.{by_test}
 use Rattle.flows.specs.Saturation.{table1, listed_from, straight_flow, turning_flow, turn_divisor}
 
--- a number that is a definition's, and below a limit
+-- A number that is a definition's, and below a limit. Each function has a limit of its own, so that a type in place of this would be one
+-- for each of them.
 pub record Bounded (value limit r : ℕ) : Type 0 where
   pub same : r ≡ value
   pub small : r < limit

@@ -8,10 +8,9 @@ use borrow.Author.Tests.{ltb-true, ltb-false, leb-true, le-leb}
 use Rattle.laws.specs.Tests.{by_test}
 use Rattle.limits.specs.Limits.{most_bytes}
 use Rattle.fields.specs.Bytes.{byte_at, body_of, field_long}
-use Rattle.fields.specs.Verdict.{is_refused, not_refused}
-use Rattle.fields.specs.declared.Verdict.TheVariants.{Passed}
+use Rattle.fields.specs.Verdict.{is_refused, not_refused, Passed}
 use Rattle.junction.specs.declared.Junction.{Junction}
-use Rattle.junction.specs.declared.Reading.{Reading}
+use Rattle.junction_file.specs.Reading.{Reading}
 use Rattle.junction_places.specs.Blank.{blank}
 use Rattle.junction_questions.specs.Questions.{field_verdict, whole_verdict}
 use Rattle.junction_file.specs.Reading.{with_field, after_field, read_field, at_end, read_from, reading}

@@ -1,5 +1,5 @@
 -- The invariant is that the most so far is the largest of the zones passed.
-use Rattle.std.proofs.Common.{◌-◌, ◌≡◌, ◌≤◌}
+use Rattle.std.proofs.Common.{◌≡◌}
 use Rattle.laws.specs.Largest.{largest_of}
 use Rattle.junction_places.specs.Places.{zone_at}
 use Rattle.junction_figures.specs.Figures.{zone_entry}
@@ -7,7 +7,4 @@ use Rattle.junction_figures.proofs.pair_entry.Given as goal
 
 abbrev pub invariant-loop-i : goal.invariant-loop-i
 invariant-loop-i l =
-    (l.i ≤ l.j.held.zones) × (l.most ≡ largest_of (λ k. zone_entry l.j l.n l.m (zone_at l.j k)) l.i)
-
-abbrev pub decreases-loop-i : goal.decreases-loop-i
-decreases-loop-i l = l.j.held.zones - l.i
+    (l.most ≡ largest_of (λ k. zone_entry l.j l.n l.m (zone_at l.j k)) l.i)

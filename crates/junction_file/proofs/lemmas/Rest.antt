@@ -5,10 +5,9 @@ use Rattle.std.specs.Prelude.{true, false, List, ◌≡◌, length}
 use Rattle.std.proofs.Math.Path.{refl}
 use borrow.Author.Tests.{lt-ltb, le-ltb, lt-leb}
 use Rattle.fields.specs.Bytes.{byte_at, field_end, body_of, fits_within, field_long, fits_end}
-use Rattle.fields.specs.Verdict.{is_refused}
-use Rattle.fields.specs.declared.Verdict.TheVariants.{Passed, Refused}
+use Rattle.fields.specs.Verdict.{is_refused, Passed, Refused}
 use Rattle.junction.specs.declared.Junction.{Junction}
-use Rattle.junction.specs.declared.Reading.{Reading}
+use Rattle.junction_file.specs.Reading.{Reading}
 use Rattle.junction_places.specs.Blank.{blank}
 use Rattle.junction_questions.specs.lemmas.Passed.{field_passed}
 use Rattle.junction_questions.specs.Questions.{field_verdict}

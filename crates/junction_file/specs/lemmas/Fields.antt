@@ -15,11 +15,10 @@ use Rattle.laws.specs.Search.{first_below}
 use Rattle.laws.specs.Tests.{by_test, either}
 use Rattle.limits.specs.Limits.{least_period, greatest_period, most_phases}
 use Rattle.fields.specs.Bytes.{byte_at, number_at, byte_in, number_in}
-use Rattle.fields.specs.Verdict.{ask_passed}
-use Rattle.fields.specs.declared.Verdict.TheVariants.{Passed}
+use Rattle.fields.specs.Verdict.{ask_passed, Passed}
 use Rattle.counts.specs.declared.Count.{Count}
 use Rattle.junction.specs.declared.Junction.{Junction}
-use Rattle.junction.specs.declared.Reading.{Reading}
+use Rattle.junction_file.specs.Reading.{Reading}
 use Rattle.junction.specs.declared.Side.{Side}
 use Rattle.junction.specs.declared.Zone.{Zone}
 use Rattle.junction.specs.Layout.{planned_period, heading_in_range, radius_in_range, shares_in_range, car_in_range, car_of, tram_in_range, tram_of, pedestrian_in_range, walk_of, pedestrian_of}

@@ -4,8 +4,7 @@ use Rattle.std.proofs.Common.{sym, ◌∙◌}
 use Rattle.std.specs.Prelude.{false, List, ◌≡◌, length}
 use borrow.Author.Tests.{le-leb}
 use Rattle.fields.specs.Bytes.{byte_at, field_end, body_of, fits_end}
-use Rattle.fields.specs.Verdict.{is_refused, not_refused}
-use Rattle.fields.specs.declared.Verdict.TheVariants.{Passed}
+use Rattle.fields.specs.Verdict.{is_refused, not_refused, Passed}
 use Rattle.junction.specs.declared.Junction.{Junction}
 use Rattle.junction_places.specs.Blank.{blank}
 use Rattle.junction_questions.specs.Questions.{body_verdict, named_by, field_verdict}

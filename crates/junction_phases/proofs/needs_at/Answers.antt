@@ -1,23 +1,8 @@
--- The invariant is that each phase has the largest need of its streams
-use Rattle.std.proofs.Common.{arith, get_or}
-use Rattle.laws.proofs.ByNumber.{by_number_none, by_number_next}
-use Rattle.laws.specs.ByNumber.{raised}
-use Rattle.laws.specs.Ranges.{Between}
+-- The figure is the need of the stream at a place.
+use Rattle.std.proofs.Common.{rules, get_or}
+use Rattle.flows.specs.Needs.{need_at}
 use Rattle.junction_places.specs.Blank.{no_stream}
-use Rattle.junction_phases.proofs.needs_at.Goals.{In-loop-i}
 use Rattle.junction_phases.proofs.needs_at.Goals as goal
 
--- the stream's phase
-range : (c : In-loop-i) → Between 1 6 (get_or c.args.streams c.loop-i.i no_stream).phase
-range c = c.requires.each c.loop-i.i c.loop-i-test.true
-
-pub loop-i-init : goal.loop-i-init
-loop-i-init c = (omega arith, by_number_none _)
-
-pub loop-i-preserved : goal.loop-i-preserved
-loop-i-preserved c =
-    let l = c.loop-i in (
-      omega arith,
-      by_number_next _ l.i _
-          (raised _ _ _ _ l.needs l.invariant.1 (range (goal.at.loop-i-preserved c).In-loop-i) (simp (c.u32_larger.ensures, c.need.ensures))),
-    )
+pub returns : goal.returns
+returns c = c.largest_by_phase.ensures (λ i. need_at c.args.t (get_or c.args.streams.now i no_stream)) (λ i x low post. search rules)

@@ -1,10 +1,12 @@
--- The invariant is that the last phase so far is the largest number of those passed.
-use Rattle.std.proofs.Common.{arith, sym}
-use Rattle.laws.proofs.Largest.{largest_none, largest_next}
+-- The stream passed is the one at its place.
+use Rattle.std.proofs.Common.{arith, ◌<◌, length-take}
+use Rattle.std.proofs.lemmas.List.{get_or-take}
+use Rattle.laws.proofs.Largest.{largest_next}
+use Rattle.junction_places.specs.Blank.{no_stream}
 use Rattle.junction_phases.proofs.phase_count.Goals as goal
 
-pub loop-i-init : goal.loop-i-init
-loop-i-init c = (omega arith, sym (largest_none _))
-
-pub loop-i-preserved : goal.loop-i-preserved
-loop-i-preserved c = (omega arith, simp (c.u32_larger-last.ensures, c.loop-i.invariant.1, largest_next))
+pub loop-s-preserved : goal.loop-s-preserved
+loop-s-preserved c =
+    let l = c.loop-s in
+    let low : l.s-index < c.args.n = omega (arith, length-take c.args.n c.args.streams.now) in
+    simp (c.max-last.ensures, get_or-take c.args.n c.args.streams.now l.s-index no_stream low, l.invariant, largest_next)

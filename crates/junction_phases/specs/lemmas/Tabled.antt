@@ -31,7 +31,7 @@ use Rattle.junction_phases.specs.JunctionPhases.{has_pedestrian_or_tram, phase_a
 use Rattle.junction_phases.specs.lemmas.Zones.{zone_figure, zones_entry, zones_enough}
 
 -- of the first n streams, the largest figure of those of phase f; the needed greens at a cycle; the flow ratios of cars
-abbrev largest_in : List Stream → (ℕ → ℕ) → ℕ → ℕ → ℕ
+abbrev pub largest_in : List Stream → (ℕ → ℕ) → ℕ → ℕ → ℕ
 largest_in streams figure n f = largest_of (λ i. cond (eqb (get_or streams i no_stream).phase f) (figure i) 0) n
 
 abbrev pub needs_by : List Stream → ℕ → ℕ → ℕ → ℕ

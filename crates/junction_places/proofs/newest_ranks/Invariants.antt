@@ -1,10 +1,6 @@
 -- The invariant is that each number has the largest rank of the counts passed.
-use Rattle.std.proofs.Common.{◌-◌, ◌≤◌}
 use Rattle.junction_places.specs.lemmas.Ranks.{RanksOf}
 use Rattle.junction_places.proofs.newest_ranks.Given as goal
 
 abbrev pub invariant-loop-i : goal.invariant-loop-i
-invariant-loop-i l = (l.i ≤ l.j.held.counts) × RanksOf l.j l.i l.ranks
-
-abbrev pub decreases-loop-i : goal.decreases-loop-i
-decreases-loop-i l = l.j.held.counts - l.i
+invariant-loop-i l = RanksOf l.j l.i l.ranks

@@ -1,8 +1,7 @@
 -- What questions that refuse nothing say.
 use Rattle.std.specs.Prelude.{ℕ, true, List, ◌≡◌}
 use Rattle.fields.specs.Bytes.{byte_at, fits, body_of}
-use Rattle.fields.specs.Verdict.{ask_passed}
-use Rattle.fields.specs.declared.Verdict.TheVariants.{Passed}
+use Rattle.fields.specs.Verdict.{ask_passed, Passed}
 use Rattle.junction.specs.declared.Junction.{Junction}
 use Rattle.junction_questions.specs.Questions.{in_order, length_right, in_range, within_limit, refers, body_verdict, named_by, field_verdict}
 

@@ -43,3 +43,9 @@ module _ (j : Junction) where
         → let z = get_or j.zones i no_zone in
         Between 1 most_streams z.a.stream × Between 1 most_streams z.b.stream
     zone_ends i low = let right = zone_right j taken i low in (placed _ right.a, placed _ right.b)
+
+    pub zone_first : (i : ℕ) → i < j.held.zones → Between 1 most_streams (get_or j.zones i no_zone).a.stream
+    zone_first i low = (zone_ends i low).0
+
+    pub zone_second : (i : ℕ) → i < j.held.zones → Between 1 most_streams (get_or j.zones i no_zone).b.stream
+    zone_second i low = (zone_ends i low).1

@@ -1,10 +1,9 @@
 -- Each byte of the buffer is filled with the file's.
-use Rattle.std.proofs.Common.{arith}
 use Rattle.laws.specs.Filled.{filled_none, filled_next}
 use Rattle.plan_file.proofs.write_bytes.Goals as goal
 
 pub loop-k-init : goal.loop-k-init
-loop-k-init c = (omega arith, simp filled_none)
+loop-k-init c = simp filled_none
 
 pub loop-k-preserved : goal.loop-k-preserved
-loop-k-preserved c = (omega arith, simp (c.plan_byte.ensures, c.loop-k.invariant.1, filled_next))
+loop-k-preserved c = simp (c.plan_byte.ensures, c.loop-k.invariant, filled_next)

@@ -2,8 +2,7 @@
 use Rattle.std.specs.Prelude.{ℕ, ◌≤◌, Bool, true, List, ◌↔◌, ◌≡◌, ltb, length}
 use Rattle.std.proofs.Common.{arith, sym, ◌∙◌, le-leb, lt-ltb}
 use Rattle.fields.specs.Bytes.{field_end, fits, fits_within, field_long, fits_end}
-use Rattle.fields.specs.Verdict.{ask_passed}
-use Rattle.fields.specs.declared.Verdict.TheVariants.{Passed}
+use Rattle.fields.specs.Verdict.{ask_passed, Passed}
 use Rattle.plan_file.specs.Plans.{due_verdict}
 
 pub record DuePassed (s : List ℕ) (at : ℕ) (expected in_range : Bool) : Type 0 where

@@ -1,11 +1,20 @@
--- The test says whether the junction's questions refuse it.
-use Rattle.std.proofs.Common.{ap, sym, ◌∙◌}
-use Rattle.fields.specs.Verdict.{is_refused, not_refused}
-use Rattle.junction_file.proofs.TakenFile.{taken}
+-- The junction's refusal is the first; of a junction that is taken, what is left is its own.
+use Rattle.std.proofs.Common.{sym, ◌∙◌}
+use Rattle.std.proofs.lemmas.Result.{err_from_is_err_and}
+use Rattle.fields.specs.Verdict.{answered_ok, answered_err}
+use Rattle.junction_file.specs.Reading.{reading}
+use Rattle.plan_judge.specs.Judgement.{judgement}
 use Rattle.plan_judge.proofs.judge.Goals as goal
 
-pub judge_plan-requires : goal.judge_plan-requires
-judge_plan-requires c =
-    let e = c.read-reading.ensures in
-    let t = ap (λ r. is_refused r.verdict) (sym e) ∙ sym c.refused.ensures ∙ c.if-refused.false in
-    rw e (taken c.args.junction.now (not_refused _ t))
+pub returns-in_err-j : goal.returns-in_err-j
+unfolding judgement
+returns-in_err-j c =
+    let p = err_from_is_err_and c.from_residual.result c.from_residual.ensures.1 in
+    let e = answered_err (reading c.args.junction.now).verdict _ (sym c.read.ensures.answer ∙ c.in_err-j.was) in
+    rw (p.1, p.2, e)
+
+pub returns : goal.returns
+unfolding judgement
+returns c =
+    let e = answered_ok (reading c.args.junction.now).verdict _ (sym c.read.ensures.answer ∙ c.in_ok-j.was) in
+    rw (e.0, e.1) c.judge_plan.ensures

@@ -4,8 +4,7 @@ use native.Mathlib.Omega.{arith}
 use Rattle.std.proofs.Math.Logic.{⊎_elim, inl, inr}
 use Rattle.std.proofs.Math.Path.{subst}
 use Rattle.laws.specs.Ranges.{Between}
-use Rattle.fields.specs.Verdict.{both_passed, each_passed}
-use Rattle.fields.specs.declared.Verdict.TheVariants.{Passed}
+use Rattle.fields.specs.Verdict.{both_passed, each_passed, Passed}
 use Rattle.junction.specs.declared.Junction.{Junction}
 use Rattle.junction_places.specs.Places.{zone_at, zone_numbered, zone_numbered_at}
 use Rattle.junction_file.specs.Reading.{reading}

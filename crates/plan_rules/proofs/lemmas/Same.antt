@@ -2,8 +2,7 @@
 use Rattle.std.specs.Prelude.{ℕ, ◌-◌, ◌≡◌}
 use Rattle.std.proofs.Common.{arith}
 use Rattle.laws.specs.Ranges.{Between}
-use Rattle.fields.specs.Verdict.{each_same}
-use Rattle.fields.specs.declared.Verdict.TheVariants.{Passed}
+use Rattle.fields.specs.Verdict.{each_same, Passed}
 use Rattle.junction.specs.declared.Junction.{Junction}
 use Rattle.junction_places.specs.Places.{zone_numbered_at}
 use Rattle.junction_file.specs.Taken.{Taken}

@@ -1,17 +1,16 @@
 -- What the answer and the buffer are where something is refused, and where nothing is; and that the cycle then works.
 use Rattle.std.specs.Prelude.{ℕ, ◌≤◌, ◌<◌, true, false, List, ◌≡◌, ltb, length}
-use Rattle.std.proofs.Common.{sym, ◌∙◌}
+use Rattle.std.proofs.Common.{sym, ◌∙◌, true≢false}
 use borrow.Author.Tests.{ltb-true, lt-ltb, le-ltb}
 use Rattle.laws.specs.Tests.{by_test}
 use Rattle.limits.specs.Limits.{no_cycle}
-use Rattle.fields.specs.Verdict.{ask_passed, is_refused, first_refusal, first_refused, first_passed}
-use Rattle.fields.specs.declared.Verdict.TheVariants.{Passed, Refused}
+use Rattle.fields.specs.Verdict.{ask_passed, is_refused, first_refusal, first_refused, first_passed, Passed, Refused}
 use Rattle.junction.specs.declared.Junction.{Junction}
 use Rattle.plan_file.specs.Writing.{plan_size, has_room, written}
 use Rattle.cycle_search.specs.Planning.{ratios, first_tried, plan_at, cycle, found}
 use Rattle.junction_file.specs.Reading.{reading}
 use Rattle.planner.specs.WorkingOut.{searched, refusal, calculation, junction_verdict, junction_worked, junction_buffer, worked, buffer}
-use Rattle.planner.specs.declared.Worked.{Worked}
+use Rattle.planner.specs.WorkingOut.{Worked}
 
 module _ (j : Junction) (size : ℕ) where
   pub cycle_found : junction_verdict j size ≡ Passed → cycle j < no_cycle
@@ -84,3 +83,12 @@ file_verdict_lem junction size =
     by_test (is_refused (reading junction).verdict)
     (λ e. rw e (sym (first_refused (reading junction).verdict _ e)))
     (λ e. rw e (worked_verdict (reading junction).junction size ∙ sym (first_passed (reading junction).verdict _ e)))
+
+-- with a refusal, the three numbers are 0
+pub worked_nothing : (junction : List ℕ) (size : ℕ) → is_refused (worked junction size).verdict ≡ true
+    → worked junction size ≡ refusal (worked junction size).verdict
+unfolding worked junction_worked
+worked_nothing junction size e =
+    let j = (reading junction).junction in
+    by_test (is_refused (reading junction).verdict) (λ t. rw t)
+    (λ t. by_test (is_refused (junction_verdict j size)) (λ u. rw (t, u)) (λ u. absurd (true≢false (sym (rw (t, u) at e) ∙ u))))

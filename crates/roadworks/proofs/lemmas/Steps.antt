@@ -1,12 +1,12 @@
 -- The answer by the questions in order, 25, 26, 21, 22 and 27: what each gives where those before it refuse nothing.
-use Rattle.std.specs.Prelude.{ℕ, ◌≤◌, ◌<◌, true, false, ◌&&◌, ◌≡◌}
+use Rattle.fields.specs.Verdict.{Refused}
+use Rattle.std.specs.Prelude.{ℕ, ◌≤◌, ◌<◌, true, false, ◌&&◌, ◌≡◌, Ok}
 use borrow.Author.Tests.{lt-ltb, le-ltb}
 use Rattle.limits.specs.Limits.{no_cycle}
 use Rattle.stretches.specs.Table.{listed}
 use Rattle.phase_lengths.specs.Phases.{ratio_sum}
 use Rattle.roadworks.specs.Roadworks.{in_range, phases_of, cycle_of, enough_waiting, later_verdict, portable_verdict, timing, unless, timed, portable}
 use Rattle.roadworks.specs.declared.Approach.{Approach}
-use Rattle.roadworks.specs.declared.Portable.TheVariants.{Refused, Timed}
 use Rattle.roadworks.specs.lemmas.Steps.{w}
 
 module _ (stretch speed : ℕ) (a b : Approach) where
@@ -42,6 +42,6 @@ module _ (stretch speed : ℕ) (a b : Approach) where
 
       -- nothing is refused
       pub all_answered : (enough_waiting a (cycle_of (w stretch speed a b)) && enough_waiting b (cycle_of (w stretch speed a b))) ≡ true
-          → timed stretch speed a b ≡ Timed (timing stretch speed a b)
+          → timed stretch speed a b ≡ Ok (timing stretch speed a b)
       unfolding timed later_verdict unless
       all_answered e = simp (lt-ltb (ratio_sum (phases_of (w stretch speed a b))) 10000 served, lt-ltb (cycle_of (w stretch speed a b)) no_cycle found, e)

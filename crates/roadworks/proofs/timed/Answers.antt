@@ -1,5 +1,8 @@
 -- Each number that it works out is that of the definitions.
-use Rattle.std.proofs.Common.{true, false, ◌&&◌, ◌<◌, ◌≤◌, ◌≡◌, ◌∙◌, ap, sym}
+use Rattle.std.specs.Prelude.{Ok}
+use Rattle.std.proofs.lemmas.Result.{err_from_is_err_and}
+use Rattle.fields.specs.Verdict.{ask_fails, ask_holds}
+use Rattle.std.proofs.Common.{true, false, ◌&&◌, ◌<◌, ◌≤◌, ◌≡◌, ◌∙◌, ap, sym, ltb-true, ltb-false}
 use Rattle.limits.specs.Limits.{no_cycle}
 use Rattle.phase_lengths.specs.First.{first_length_range}
 use Rattle.phase_lengths.specs.Phases.{sums_of, ratio_sum}
@@ -8,8 +11,7 @@ use Rattle.roadworks.proofs.Approaches.{phases_right_lem}
 use Rattle.roadworks.proofs.Cycle.{cycle_greens}
 use Rattle.roadworks.proofs.lemmas.Steps.{too_much, no_length, waiting_short, all_answered}
 use Rattle.roadworks.specs.Roadworks.{asked_of, phases_of, first_tried, cycle_of, enough_waiting, timing}
-use Rattle.roadworks.specs.declared.Portable.TheVariants.{Timed}
-use Rattle.roadworks.proofs.timed.Goals.{After-phases_of-q, After-sums_of-sums, After-search-cycle}
+use Rattle.roadworks.proofs.timed.Goals.{After-phases_of-q, After-sums_of-sums, In-Some, In_ok-ask}
 use Rattle.roadworks.proofs.timed.Goals as goal
 
 -- the phases are those of what is asked, and as the rules of greens ask
@@ -28,49 +30,67 @@ ratios c =
     ap (λ x. x.ratios) (c.sums_of-sums.ensures
     ∙ ap sums_of (c.phases_of-q.ensures ∙ rw (c.load-2.ensures, c.load.ensures, c.intergreen.ensures)))
 
-found : (c : After-search-cycle) → c.search-cycle.result ≡ cycle_of (asked_of c.args.stretch c.args.speed c.args.first c.args.second)
+-- the cycle that is found
+found : (c : In-Some)
+    → (c.in-Some.cycle < no_cycle) × (c.in-Some.cycle ≡ cycle_of (asked_of c.args.stretch c.args.speed c.args.first c.args.second))
 unfolding cycle_of first_tried
-found c =
-    c.search-cycle.ensures
-    ∙ rw (
+found c = (
+  c.in-Some.ensures.some.0,
+  c.in-Some.ensures.some.1
+      ∙ rw (
+        c.first_length.ensures,
+        c.sums_of-sums.ensures,
+        c.phases_of-q.ensures,
+        c.load-2.ensures,
+        c.load.ensures,
+        c.intergreen.ensures,
+      ),
+)
+
+-- where Y is below 10,000
+low : (c : In_ok-ask) → c.sums_of-sums.result.ratios < 10000
+low c = ltb-true _ _ (ask_holds _ _ _ (sym c.ask.ensures ∙ c.in_ok-ask.was))
+
+pub returns-in_err-ask : goal.returns-in_err-ask
+returns-in_err-ask c =
+    let p = err_from_is_err_and c.from_residual.result c.from_residual.ensures.1 in
+    let fails = ask_fails _ _ _ (sym c.ask.ensures ∙ c.in_err-ask.was) in
+    let at = (goal.at.returns-in_err-ask c).After-sums_of-sums in
+    let high : 10000 ≤ c.sums_of-sums.result.ratios = ltb-false _ _ fails.0 in
+    rw (p.1, p.2, fails.1) (sym (too_much _ _ _ _ (rw (ratios at) at high)))
+
+pub search-requires-clause-right : goal.search-requires-clause-right
+search-requires-clause-right c = right (goal.at.search-requires-clause-right c).After-phases_of-q
+
+pub search-requires-clause-short : goal.search-requires-clause-short
+search-requires-clause-short c = rw c.first_length.ensures (first_length_range _ _ _).1
+
+pub returns-in_default : goal.returns-in_default
+unfolding cycle_of first_tried
+returns-in_default c =
+    let at = goal.at.returns-in_default c in
+    let few : c.sums_of-sums.result.ratios < 10000 = low at.In_ok-ask in
+    let high : no_cycle ≤ cycle_of (asked_of c.args.stretch c.args.speed c.args.first c.args.second) =
+    rw (
       c.first_length.ensures,
       c.sums_of-sums.ensures,
       c.phases_of-q.ensures,
       c.load-2.ensures,
       c.load.ensures,
       c.intergreen.ensures,
-    )
+    ) at c.in_default.ensures.none in
+    sym (no_length _ _ _ _ (rw (ratios at.After-sums_of-sums) at few) high)
 
-pub returns-then-sums-ge10000 : goal.returns-then-sums-ge10000
-returns-then-sums-ge10000 c =
-    let at = (goal.at.returns-then-sums-ge10000 c).After-sums_of-sums in
-    let high : 10000 ≤ c.sums_of-sums.result.ratios = c.if-sums-ge10000.true in
-    c.refused.ensures ∙ sym (too_much _ _ _ _ (rw (ratios at) at high))
-
-pub search-cycle-requires-clause-right : goal.search-cycle-requires-clause-right
-search-cycle-requires-clause-right c = right (goal.at.search-cycle-requires-clause-right c).After-phases_of-q
-
-pub search-cycle-requires-clause-short : goal.search-cycle-requires-clause-short
-search-cycle-requires-clause-short c = rw c.first_length.ensures (first_length_range _ _ _).1
-
-pub returns-then-cycle-ge-NO_CYCLE : goal.returns-then-cycle-ge-NO_CYCLE
-returns-then-cycle-ge-NO_CYCLE c =
-    let at = goal.at.returns-then-cycle-ge-NO_CYCLE c in
-    let low : c.sums_of-sums.result.ratios < 10000 = c.if-sums-ge10000.false in
-    let high : no_cycle ≤ c.search-cycle.result = c.if-cycle-ge-NO_CYCLE.true in
-    c.refused-then-cycle-ge-NO_CYCLE.ensures
-    ∙ sym (no_length _ _ _ _ (rw (ratios at.After-sums_of-sums) at low) (rw (found at.After-search-cycle) at high))
-
-pub returns-then-not-enough_waiting : goal.returns-then-not-enough_waiting
-returns-then-not-enough_waiting c =
-    let at = goal.at.returns-then-not-enough_waiting c in
-    let low : c.sums_of-sums.result.ratios < 10000 = c.if-sums-ge10000.false in
-    let short : c.search-cycle.result < no_cycle = c.if-cycle-ge-NO_CYCLE.false in
-    let no : (enough_waiting c.args.first c.search-cycle.result && enough_waiting c.args.second c.search-cycle.result) ≡ false =
-    rw (c.enough_waiting-2.ensures, c.enough_waiting.ensures) at c.if-not-enough_waiting.true in
-    let is = found at.After-search-cycle in
-    c.refused-then-not-enough_waiting.ensures
-    ∙ sym (waiting_short _ _ _ _ (rw (ratios at.After-sums_of-sums) at low) (rw is at short) (rw is at no))
+pub returns-in_err-ask-2 : goal.returns-in_err-ask-2
+returns-in_err-ask-2 c =
+    let at = goal.at.returns-in_err-ask-2 c in
+    let p = err_from_is_err_and c.from_residual-in_err-ask-2.result c.from_residual-in_err-ask-2.ensures.1 in
+    let fails = ask_fails _ _ _ (sym c.ask-2.ensures ∙ c.in_err-ask-2.was) in
+    let no : (enough_waiting c.args.first c.in-Some.cycle && enough_waiting c.args.second c.in-Some.cycle) ≡ false =
+    rw (c.enough_waiting-2.ensures, c.enough_waiting.ensures) at fails.0 in
+    let few : c.sums_of-sums.result.ratios < 10000 = low at.In_ok-ask in
+    let is = found at.In-Some in
+    rw (p.1, p.2, fails.1) (sym (waiting_short _ _ _ _ (rw (ratios at.After-sums_of-sums) at few) (rw is.1 at is.0) (rw is.1 at no)))
 
 pub timing_at-requires-clause-right : goal.timing_at-requires-clause-right
 timing_at-requires-clause-right c = right (goal.at.timing_at-requires-clause-right c).After-phases_of-q
@@ -78,18 +98,16 @@ timing_at-requires-clause-right c = right (goal.at.timing_at-requires-clause-rig
 pub timing_at-requires-clause-green : goal.timing_at-requires-clause-green
 timing_at-requires-clause-green c =
     let at = goal.at.timing_at-requires-clause-green c in
-    let short : c.search-cycle.result < no_cycle = c.if-cycle-ge-NO_CYCLE.false in
-    let is = found at.After-search-cycle in
-    rw (is, phases at.After-phases_of-q) (cycle_greens _ (rw is at short))
+    let is = found at.In-Some in
+    rw (is.1, phases at.After-phases_of-q) (cycle_greens _ (rw is.1 at is.0))
 
 pub returns : goal.returns
 unfolding timing
 returns c =
     let at = goal.at.returns c in
-    let low : c.sums_of-sums.result.ratios < 10000 = c.if-sums-ge10000.false in
-    let short : c.search-cycle.result < no_cycle = c.if-cycle-ge-NO_CYCLE.false in
-    let yes : (enough_waiting c.args.first c.search-cycle.result && enough_waiting c.args.second c.search-cycle.result) ≡ true =
-    rw (c.enough_waiting-2.ensures, c.enough_waiting.ensures) at c.if-not-enough_waiting.false in
-    let is = found at.After-search-cycle in
-    ap Timed (c.timing_at.ensures ∙ rw (c.times.ensures, is, phases at.After-phases_of-q))
-    ∙ sym (all_answered _ _ _ _ (rw (ratios at.After-sums_of-sums) at low) (rw is at short) (rw is at yes))
+    let yes : (enough_waiting c.args.first c.in-Some.cycle && enough_waiting c.args.second c.in-Some.cycle) ≡ true =
+    rw (c.enough_waiting-2.ensures, c.enough_waiting.ensures) at (ask_holds _ _ _ (sym c.ask-2.ensures ∙ c.in_ok-ask-2.was)) in
+    let few : c.sums_of-sums.result.ratios < 10000 = low at.In_ok-ask in
+    let is = found at.In-Some in
+    ap Ok (c.timing_at.ensures ∙ rw (c.times.ensures, is.1, phases at.After-phases_of-q))
+    ∙ sym (all_answered _ _ _ _ (rw (ratios at.After-sums_of-sums) at few) (rw is.1 at is.0) (rw is.1 at yes))

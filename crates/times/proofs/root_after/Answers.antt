@@ -6,5 +6,5 @@ pub overflow_mul-result-4 : goal.overflow_mul-result-4
 overflow_mul-result-4 c =
     let square : c.args.k * c.args.k ≤ 2 ^ 32 = mul-le-mul c.requires.factor_small c.requires.factor_small in
     let fourfold : 4 * (c.args.k * c.args.k) ≤ 2 ^ 34 = mul-le-mul (le_refl 4) square in
-    let scaled : 4 * (c.args.k * c.args.k) * c.args.s ≤ 2 ^ 42 = mul-le-mul fourfold c.requires.roots_small.scale in
-    omega (arith, mul-le-mul scaled c.requires.roots_small.reaches)
+    let scaled : 4 * (c.args.k * c.args.k) * c.args.roots.s ≤ 2 ^ 42 = mul-le-mul fourfold c.args.roots.small.scale in
+    omega (arith, mul-le-mul scaled c.args.roots.small.reaches)

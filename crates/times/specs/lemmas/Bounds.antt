@@ -1,5 +1,6 @@
 -- How large the numbers of a time are, so that every product of the comparison fits 64 bits.
-use Rattle.std.specs.Prelude.{ℕ, ◌≤◌, ◌^◌, ◌≡◌}
+use Rattle.std.specs.Prelude.{ℕ, ◌≤◌, ◌^◌}
+use Rattle.std.proofs.Props.{props}
 use Rattle.times.specs.declared.Time.{Time}
 use Rattle.times.specs.declared.Time.TheVariants.{Ratio, Root}
 
@@ -22,7 +23,7 @@ abbrev pub TimeSmall : Time → Type 0
 TimeSmall (Ratio n d) = SmallRatio n d
 TimeSmall (Root q d less) = SmallRoot q d less
 
--- an answer that is the time t, and small
-pub record Timed (r t : Time) : Type 0 where
-  pub same : r ≡ t
-  pub small : TimeSmall r
+-- it has one proof at most
+pub time_small_prop : (t : Time) → IsProp (TimeSmall t)
+time_small_prop (Ratio n d) = hlevel props
+time_small_prop (Root q d less) = hlevel props

@@ -1,9 +1,0 @@
--- The buffer stays as long as it was.
-use Rattle.std.proofs.Common.{◌-◌, ◌≡◌, length}
-use Rattle.intergreens.proofs.put_lines.Given as goal
-
-abbrev pub invariant-loop-i : goal.invariant-loop-i
-invariant-loop-i l = length l.out ≡ length l.fn.out
-
-abbrev pub decreases-loop-i : goal.decreases-loop-i
-decreases-loop-i l = l.streams - l.i
