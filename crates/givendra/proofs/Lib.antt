@@ -1,4 +1,5 @@
 pub mod Answered
 pub mod Chosen
 pub mod FileDays
+pub mod Figures
 pub mod Worked

@@ -94,6 +94,11 @@ junction_answer junction =
 unfoldable pub figure : Verdict → ℕ → Figure
 figure v x = record { place = place_of v; refusal = number_of v; value = unless_refused v x }
 
+-- what is answered of a junction, or the refusal, with 0 for the figure
+abbrev pub figure_answer : Result ℕ Refusal → Figure
+figure_answer (Ok x) = record { place = 0; refusal = 0; value = x }
+figure_answer (Err r) = record { place = r.place; refusal = r.number; value = 0 }
+
 -- a function's own questions, after the junction's: 7, place the number asked for, does the stream exist?
 unfoldable pub intergreen_verdict : Junction → ℕ → ℕ → Verdict
 intergreen_verdict j from to = ask (exists j from) 7 from (ask (exists j to) 7 to Passed)

@@ -2,16 +2,18 @@
 // number is 0 where nothing is refused, and the other numbers are 0 where something is.
 #![tactic(auto)]
 
-ghost use Rattle.std.specs.Prelude.{◌≡◌, ℕ, max, length};
+ghost use Rattle.std.specs.Prelude.{◌≡◌, ℕ, max, length, leb, Result};
 ghost use Rattle.fields.specs.declared.Refusal.{Refusal};
-ghost use Rattle.fields.specs.Verdict.{Verdict, first_refusal};
+ghost use Rattle.fields.specs.Verdict.{Verdict, Passed, ask, first_refusal, answered};
+ghost use Rattle.counts.specs.Newest.{rank_flow};
 ghost use Rattle.junction.specs.declared.Junction.{Junction};
 ghost use Rattle.junction_file.specs.Reading.{reading};
+ghost use Rattle.junction_figures.specs.Figures.{pair_entry, stream_need, stream_saturation, stream_ratio};
 ghost use Rattle.offsets.specs.Shifting.{shifted_plan};
 ghost use Rattle.planner.specs.WorkingOut.{buffer as buffer_after};
-ghost use Rattle.givendra.specs.Answers.{release, answer_of, judge_answer, worked_answer, plan_answer, read_answer, junction_answer, figure as figure_of, intergreen_verdict, intergreen_answer, need_verdict, need_answer, car_verdict, saturation_answer, ratio_answer};
+ghost use Rattle.givendra.specs.Answers.{release, answer_of, judge_answer, worked_answer, plan_answer, read_answer, junction_answer, figure as figure_of, figure_answer, intergreen_verdict, intergreen_answer, need_verdict, need_answer, car_verdict, saturation_answer, ratio_answer};
 ghost use Rattle.givendra.specs.Answers.{answer_of_delay, told_answer, delay_answer, shift_answer, answer_of_portable, timed_answer, portable_answer};
-ghost use Rattle.givendra.specs.LentList.{wanted, record_rank, newest_answer, newest_figure};
+ghost use Rattle.givendra.specs.LentList.{wanted, record_rank, newest_answer};
 
 use counts::{Count, Wanted};
 use delays::Told;
@@ -187,40 +189,36 @@ impl From<Result<Junction, Refusal>> for JunctionAnswer {
     }
 }
 
-#[tactic(auto, unfolding(crate::specs::Answers::figure))]
-fn figure_of(v: Result<(), Refusal>, value: u32) -> Figure
-    ensures { result ≡ figure_of v value }
-{
-    match v {
-        Ok(()) => Figure {
-            place: 0,
-            refusal: 0,
-            value,
-        },
-        Err(r) => Figure {
-            place: r.place,
-            refusal: r.number,
-            value: 0,
-        },
+impl From<Result<u32, Refusal>> for Figure {
+    ghost from_gives = { λ v r. r ≡ figure_answer v };
+
+    fn from(v: Result<u32, Refusal>) -> Figure {
+        match v {
+            Ok(value) => Figure {
+                place: 0,
+                refusal: 0,
+                value,
+            },
+            Err(r) => Figure {
+                place: r.place,
+                refusal: r.number,
+                value: 0,
+            },
+        }
     }
 }
 
-// A figure of a junction file: the file's refusal, else that of what is asked of the junction, else the value.
-fn figure_in<V: Fn(Junction) -> Result<(), Refusal>, X: Fn(Junction) -> u32>(
-    junction: &[u8],
-    asked: V,
-    value: X,
-) -> Figure
-    requires asked { (j : Junction) → V.pre asked j }
-    requires value { (j : Junction) → X.pre value j }
+// A figure of a junction file: the file's refusal, else what is answered of the junction.
+#[tactic(auto, unfolding(crate::specs::Answers::figure))]
+fn figure_in<F: Fn(Junction) -> Result<u32, Refusal>>(junction: &[u8], figure: F) -> Figure
+    requires { (j : Junction) → F.pre figure j }
     ensures { (verdict : Junction → Verdict) (of : Junction → ℕ)
-        → ((j : Junction) (v : Verdict) → V.post asked j v → v ≡ verdict j)
-        → ((j : Junction) (x : ℕ) → X.post value j x → x ≡ of j)
+        → ((j : Junction) (x : Result ℕ Refusal) → F.post figure j x → x ≡ answered (verdict j) (of j))
         → result ≡ figure_of (first_refusal (reading junction.now).verdict (verdict (reading junction.now).junction)) (of (reading junction.now).junction) }
 {
     match junction_file::read(junction) {
-        Ok(j) => figure_of(asked(j), value(j)),
-        Err(r) => figure_of(Err(r), 0),
+        Ok(j) => Figure::from(figure(j)),
+        Err(r) => Figure::from(Err(r)),
     }
 }
 
@@ -230,19 +228,16 @@ fn figure_in<V: Fn(Junction) -> Result<(), Refusal>, X: Fn(Junction) -> u32>(
 pub extern "C" fn givendra_intergreen(junction: &[u8], from: usize, to: usize) -> Figure
     ensures { result ≡ intergreen_answer junction.now from to }
 {
-    figure_in(
-        junction,
-        |j| intergreen_verdict(j, from, to),
-        |j| junction_figures::pair_entry(j, from, to) as u32,
-    )
+    figure_in(junction, |j| intergreen(j, from, to))
 }
 
 #[tactic(auto, unfolding(crate::specs::Answers::intergreen_verdict))]
-fn intergreen_verdict(j: Junction, from: usize, to: usize) -> Result<(), Refusal>
-    ensures { result ≡ intergreen_verdict j from to }
+fn intergreen(j: Junction, from: usize, to: usize) -> Result<u32, Refusal>
+    ensures { result ≡ answered (intergreen_verdict j from to) (pair_entry j from to) }
 {
     ask(junction_places::exists(j, from), 7, from)?;
-    ask(junction_places::exists(j, to), 7, to)
+    ask(junction_places::exists(j, to), 7, to)?;
+    Ok(junction_figures::pair_entry(j, from, to) as u32)
 }
 
 // The needed green of a stream at a cycle, both in seconds.
@@ -251,19 +246,16 @@ fn intergreen_verdict(j: Junction, from: usize, to: usize) -> Result<(), Refusal
 pub extern "C" fn givendra_need(junction: &[u8], stream: usize, cycle: u16) -> Figure
     ensures { result ≡ need_answer junction.now stream cycle }
 {
-    figure_in(
-        junction,
-        |j| need_verdict(j, stream, cycle),
-        |j| junction_figures::stream_need(j, stream, cycle),
-    )
+    figure_in(junction, |j| need(j, stream, cycle))
 }
 
 #[tactic(auto, unfolding(crate::specs::Answers::need_verdict))]
-fn need_verdict(j: Junction, stream: usize, cycle: u16) -> Result<(), Refusal>
-    ensures { result ≡ need_verdict j stream cycle }
+fn need(j: Junction, stream: usize, cycle: u16) -> Result<u32, Refusal>
+    ensures { result ≡ answered (need_verdict j stream cycle) (stream_need j stream cycle) }
 {
     ask(junction_places::exists(j, stream), 7, stream)?;
-    ask(plan_file::cycle_in_range(cycle), 13, 0)
+    ask(plan_file::cycle_in_range(cycle), 13, 0)?;
+    Ok(junction_figures::stream_need(j, stream, cycle))
 }
 
 // The saturation flow of a car stream, in E/h.
@@ -272,11 +264,15 @@ fn need_verdict(j: Junction, stream: usize, cycle: u16) -> Result<(), Refusal>
 pub extern "C" fn givendra_saturation_flow(junction: &[u8], stream: usize) -> Figure
     ensures { result ≡ saturation_answer junction.now stream }
 {
-    figure_in(
-        junction,
-        |j| car_verdict(j, stream),
-        |j| junction_figures::stream_saturation(j, stream),
-    )
+    figure_in(junction, |j| saturation_flow(j, stream))
+}
+
+#[tactic(auto, unfolding(crate::specs::Answers::car_verdict))]
+fn saturation_flow(j: Junction, stream: usize) -> Result<u32, Refusal>
+    ensures { result ≡ answered (car_verdict j stream) (stream_saturation j stream) }
+{
+    ask(junction_questions::count_refers(j, stream), 7, stream)?;
+    Ok(junction_figures::stream_saturation(j, stream))
 }
 
 // The flow ratio of a car stream, in ten-thousandths.
@@ -285,18 +281,15 @@ pub extern "C" fn givendra_saturation_flow(junction: &[u8], stream: usize) -> Fi
 pub extern "C" fn givendra_flow_ratio(junction: &[u8], stream: usize) -> Figure
     ensures { result ≡ ratio_answer junction.now stream }
 {
-    figure_in(
-        junction,
-        |j| car_verdict(j, stream),
-        |j| junction_figures::stream_ratio(j, stream),
-    )
+    figure_in(junction, |j| flow_ratio(j, stream))
 }
 
 #[tactic(auto, unfolding(crate::specs::Answers::car_verdict))]
-fn car_verdict(j: Junction, stream: usize) -> Result<(), Refusal>
-    ensures { result ≡ car_verdict j stream }
+fn flow_ratio(j: Junction, stream: usize) -> Result<u32, Refusal>
+    ensures { result ≡ answered (car_verdict j stream) (stream_ratio j stream) }
 {
-    ask(junction_questions::count_refers(j, stream), 7, stream)
+    ask(junction_questions::count_refers(j, stream), 7, stream)?;
+    Ok(junction_figures::stream_ratio(j, stream))
 }
 
 // The delay and the level of service of a car stream in a plan.
@@ -436,14 +429,9 @@ pub struct CountRecord {
 
 // The higher of two ranks: the highest so far, and that of a record. Its file day has no part in it.
 #[tactic(auto, unfolding(crate::specs::LentList::record_rank))]
-fn newer_record(best: u32, stream: usize, design_day: u16, period: usize, r: CountRecord) -> u32
-    ensures { result ≡ max best (record_rank (wanted stream design_day period) r) }
+fn newer_record(best: u32, wanted: Wanted, r: CountRecord) -> u32
+    ensures { result ≡ max best (record_rank wanted r) }
 {
-    let wanted = Wanted {
-        stream,
-        day: design_day,
-        period,
-    };
     let count = Count {
         stream: r.stream,
         day: r.count_day,
@@ -463,16 +451,21 @@ pub extern "C" fn givendra_newest_count(
 ) -> Figure
     ensures { result ≡ newest_answer list.now (wanted stream design_day period) }
 {
+    let wanted = Wanted {
+        stream,
+        day: design_day,
+        period,
+    };
     let mut best: u32 = 0;
     for place in 0..list.len() {
-        best = newer_record(best, stream, design_day, period, list[place]);
+        best = newer_record(best, wanted, list[place]);
     }
-    newest_figure(stream, best)
+    Figure::from(flow_of_rank(stream, best))
 }
 
-#[tactic(auto, unfolding(crate::specs::LentList::newest_figure))]
-fn newest_figure(stream: usize, rank: u32) -> Figure
-    ensures { result ≡ newest_figure stream rank }
+fn flow_of_rank(stream: usize, rank: u32) -> Result<u32, Refusal>
+    ensures { result ≡ answered (ask (leb 1 rank) 9 stream Passed) (rank_flow rank) }
 {
-    figure_of(ask(1 <= rank, 9, stream), counts::flow(rank) as u32)
+    ask(1 <= rank, 9, stream)?;
+    Ok(counts::flow(rank) as u32)
 }

@@ -6,4 +6,4 @@ use Rattle.givendra.proofs.givendra_intergreen.Goals as goal
 
 pub returns : goal.returns
 unfolding intergreen_answer
-returns c = c.figure_in.ensures (λ j. intergreen_verdict j c.args.from c.args.to) (λ j. pair_entry j c.args.from c.args.to) (λ j verdict met. search rules) (λ j value met. search rules)
+returns c = c.figure_in.ensures (λ j. intergreen_verdict j c.args.from c.args.to) (λ j. pair_entry j c.args.from c.args.to) (λ j answer met. search rules)

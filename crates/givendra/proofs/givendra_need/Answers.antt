@@ -6,4 +6,4 @@ use Rattle.givendra.proofs.givendra_need.Goals as goal
 
 pub returns : goal.returns
 unfolding need_answer
-returns c = c.figure_in.ensures (λ j. need_verdict j c.args.stream c.args.cycle) (λ j. stream_need j c.args.stream c.args.cycle) (λ j verdict met. search rules) (λ j value met. search rules)
+returns c = c.figure_in.ensures (λ j. need_verdict j c.args.stream c.args.cycle) (λ j. stream_need j c.args.stream c.args.cycle) (λ j answer met. search rules)

@@ -6,4 +6,4 @@ use Rattle.givendra.proofs.givendra_saturation_flow.Goals as goal
 
 pub returns : goal.returns
 unfolding saturation_answer
-returns c = c.figure_in.ensures (λ j. car_verdict j c.args.stream) (λ j. stream_saturation j c.args.stream) (λ j verdict met. search rules) (λ j value met. search rules)
+returns c = c.figure_in.ensures (λ j. car_verdict j c.args.stream) (λ j. stream_saturation j c.args.stream) (λ j answer met. search rules)
