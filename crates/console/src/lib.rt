@@ -35,6 +35,7 @@ impl Decimal {
     pub fn tenths(n: u64) -> Decimal
         ensures whole { result.whole ≡ n / 10 }
         ensures part { result.part ≡ n % 10 }
+        ensures places { result.places ≡ 1 }
     {
         Decimal {
             whole: n / 10,
@@ -46,6 +47,7 @@ impl Decimal {
     pub fn ten_thousandths(n: u64) -> Decimal
         ensures whole { result.whole ≡ n / 10000 }
         ensures part { result.part ≡ n % 10000 }
+        ensures places { result.places ≡ 4 }
     {
         Decimal {
             whole: n / 10000,
@@ -75,7 +77,10 @@ pub struct Program<'a> {
 }
 
 impl<'a> Program<'a> {
-    pub fn new(rt: &'a HostRuntime, name: &'a str, words: &'a str) -> Program<'a> {
+    pub fn new(rt: &'a HostRuntime, name: &'a str, words: &'a str) -> Program<'a>
+        ensures name { result.name.now ≡ name.now }
+        ensures words { result.words.now ≡ words.now }
+    {
         Program { rt, name, words }
     }
 

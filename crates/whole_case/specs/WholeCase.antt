@@ -9,7 +9,8 @@ use Rattle.fields.specs.Bytes.{byte_at, number_at, field_end, fits, body_of, byt
 use Rattle.fields.specs.Verdict.{first_failing, ask_each, Passed, Refused}
 use Rattle.counts.specs.Newest.{usable, rank, rank_flow}
 use Rattle.junction.specs.Layout.{design_day, planned_period, heading_in_range, radius_in_range, shares_in_range, car_in_range, car_of, tram_in_range, tram_of}
-use Rattle.junction.specs.Layout.{pedestrian_in_range, walk_of, pedestrian_of, cyclist_in_range, cyclist_of, island_in_range, island_of, stream_length_right, stream_in_range, kind_of, stream_of, zone_in_range, zone_of, count_in_range, count_of}
+use Rattle.junction.specs.Layout.{pedestrian_in_range, walk_of, pedestrian_of, cyclist_in_range, cyclist_of, island_in_range, island_of}
+use Rattle.junction.specs.Layout.{stream_length_right, stream_in_range, kind_of, stream_of, zone_in_range, zone_of, count_in_range, count_of}
 use Rattle.junction_questions.specs.Questions.{in_order, length_right, in_range, within_limit}
 use Rattle.junction_places.specs.Places.{stream_at, count_at, zone_at, stream_numbered, zone_numbered}
 use Rattle.junction_questions.specs.Questions.{zone_refers, car_refers, refers, body_verdict, field_verdict, in_phase, first_in_phase, phase_used, phase_follows, phases_right, car_at}
