@@ -157,7 +157,9 @@ fn hex_digit(digit: u8) -> u8
 }
 
 // The number that the digits of a text make, 0 where there are none; of one of more than 19 digits, the first 19 alone.
-fn decimal(text: &[u8]) -> usize {
+fn decimal(text: &[u8]) -> usize
+    ensures { result ≤ 9999999999999999999 }
+{
     let mut n: usize = 0;
     for byte in text {
         if byte.is_ascii_digit() && n < 1000000000000000000 {

@@ -106,7 +106,9 @@ fn room() -> [u8; ROOM]
 
 // Reads standard input as far as the buffer goes. A read that fails is the end.
 // Stays a loop over a count: std has no method that fills a lent buffer as far as the input goes and answers how far that is.
-fn read_cases<'a>(rt: &HostRuntime, room: &'a mut [u8]) -> &'a [u8] {
+fn read_cases<'a>(rt: &HostRuntime, room: &'a mut [u8]) -> &'a [u8]
+    ensures { length result.now ≤ length room.old }
+{
     let mut from = rt.stdin();
     let mut size = 0;
     while size < room.len() {
